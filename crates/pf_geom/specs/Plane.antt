@@ -1,0 +1,21 @@
+-- The plane: points with whole-number coordinates, by formula.
+use Rattle.std.specs.Prelude.{ℕ, ℤ, pos, neg_ℤ, ◌+ℤ◌, ◌-ℤ◌, ◌*ℤ◌, ◌≤ℤ◌}
+use Rattle.pf_geom.specs.declared.Point.{Point}
+
+-- the number's magnitude is at most this
+pub record IsWithin (most : ℕ) (z : ℤ) : Type 0 where
+  pub low : neg_ℤ (pos most) ≤ℤ z
+  pub high : z ≤ℤ pos most
+
+-- both coordinates have a magnitude of at most 268,435,456
+pub record IsInRange (p : Point) : Type 0 where
+  pub x : IsWithin 268435456 p.x
+  pub y : IsWithin 268435456 p.y
+
+-- twice the signed area of the triangle a, b, c: positive where the three points turn counterclockwise
+abbrev pub orient_of : Point → Point → Point → ℤ
+orient_of a b c = (b.x -ℤ a.x) *ℤ (c.y -ℤ a.y) -ℤ (b.y -ℤ a.y) *ℤ (c.x -ℤ a.x)
+
+-- the squared distance from a to b
+abbrev pub len2_of : Point → Point → ℤ
+len2_of a b = (b.x -ℤ a.x) *ℤ (b.x -ℤ a.x) +ℤ (b.y -ℤ a.y) *ℤ (b.y -ℤ a.y)

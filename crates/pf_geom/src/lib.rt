@@ -1,0 +1,112 @@
+//! Points of the plane with whole-number coordinates, and exact geometry over them.
+//!
+//! Coordinates have no unit of their own. Lengths are squared, in squared coordinate units, and areas
+//! are doubled, so that every value is a whole number and none is rounded.
+#![tactic(auto)]
+
+ghost use Rattle.std.specs.Prelude.{◌≡◌, pos, ◌+ℤ◌, ◌-ℤ◌, ◌*ℤ◌, ◌≤ℤ◌, ◌<ℤ◌, ◌↔◌};
+ghost use Rattle.pf_geom.specs.Plane.{IsInRange, IsWithin, orient_of, len2_of};
+ghost use Rattle.pf_geom.specs.Laws.{FlipCutsAgree};
+
+/// A point of the plane. Every call of this crate asks that both coordinates have a magnitude of at
+/// most 268,435,456 (2 to the 28th).
+#[derive(Clone, Copy, Debug, PartialEq, Eq)]
+pub struct Point {
+    pub x: i32,
+    pub y: i32,
+}
+
+/// Which way a path of three points turns.
+#[derive(Clone, Copy, Debug, PartialEq, Eq)]
+pub enum Turn {
+    /// Counterclockwise.
+    Left,
+    /// The three points lie on one line.
+    Flat,
+    /// Clockwise.
+    Right,
+}
+
+/// Memory ran out. Nothing else makes a call answer it.
+#[derive(Clone, Copy, Debug, PartialEq, Eq)]
+pub struct NoMemory;
+
+/// Twice the signed area of the triangle `a`, `b`, `c`: positive exactly where the three points turn
+/// counterclockwise, zero where they lie on one line. In squared coordinate units.
+pub fn orient(a: Point, b: Point, c: Point) -> i128
+    requires a_in_range { IsInRange a }
+    requires b_in_range { IsInRange b }
+    requires c_in_range { IsInRange c }
+    ensures formula { result ≡ orient_of a b c }
+    ensures cyclic { result ≡ orient_of b c a }
+
+    // Twice the area of the mirrored triangle has the other sign.
+    ensures swapped { result +ℤ orient_of b a c ≡ pos 0 }
+    ensures bounded { IsWithin 576460752303423488 result }
+{
+    let plus = product(difference(b.x, a.x), difference(c.y, a.y));
+    let minus = product(difference(b.y, a.y), difference(c.x, a.x));
+    i128::from(plus - minus)
+}
+
+/// The sign of `orient(a, b, c)`.
+pub fn turn_of(a: Point, b: Point, c: Point) -> Turn
+    requires a_in_range { IsInRange a }
+    requires b_in_range { IsInRange b }
+    requires c_in_range { IsInRange c }
+    ensures left { (result ≡ Turn.Left) ↔ (pos 0 <ℤ orient_of a b c) }
+    ensures flat { (result ≡ Turn.Flat) ↔ (orient_of a b c ≡ pos 0) }
+    ensures right { (result ≡ Turn.Right) ↔ (orient_of a b c <ℤ pos 0) }
+{
+    let doubled = orient(a, b, c);
+    if doubled > 0 {
+        Turn::Left
+    } else if doubled == 0 {
+        Turn::Flat
+    } else {
+        Turn::Right
+    }
+}
+
+/// The squared distance from `a` to `b`, in squared coordinate units.
+pub fn len2(a: Point, b: Point) -> i64
+    requires a_in_range { IsInRange a }
+    requires b_in_range { IsInRange b }
+    ensures formula { result ≡ len2_of a b }
+    ensures symmetric { result ≡ len2_of b a }
+    ensures not_negative { pos 0 ≤ℤ result }
+    ensures bounded { IsWithin 576460752303423488 result }
+{
+    let across = difference(b.x, a.x);
+    let up = difference(b.y, a.y);
+    product(across, across) + product(up, up)
+}
+
+// The difference of two coordinates.
+fn difference(p: i32, q: i32) -> i64
+    requires p_within { IsWithin 268435456 p }
+    requires q_within { IsWithin 268435456 q }
+    ensures value { result ≡ p -ℤ q }
+    ensures within { IsWithin 536870912 result }
+{
+    i64::from(p) - i64::from(q)
+}
+
+// The product of two such differences.
+fn product(x: i64, y: i64) -> i64
+    requires x_within { IsWithin 536870912 x }
+    requires y_within { IsWithin 536870912 y }
+    ensures value { result ≡ x *ℤ y }
+    ensures within { IsWithin 288230376151711744 result }
+{
+    x * y
+}
+
+/// A law, and no work: cut a quadrilateral with the corners p, d, q, c by the diagonal from p to q or
+/// by that from c to d, and the two triangles have the same doubled area together.
+pub fn flip_cuts_agree()
+    ensures { FlipCutsAgree }
+{}
+
+#[cfg(test)]
+mod tests;

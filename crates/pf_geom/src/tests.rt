@@ -1,0 +1,57 @@
+//! Happy paths, with values that were worked out by hand.
+
+ghost use Rattle.pf_geom.specs.Plane.{IsInRange, IsWithin};
+
+use super::*;
+
+const LIMIT: i32 = 268435456;
+
+fn at(x: i32, y: i32) -> Point
+    requires x_within { IsWithin 268435456 x }
+    requires y_within { IsWithin 268435456 y }
+    ensures { IsInRange result }
+{
+    Point { x, y }
+}
+
+#[test]
+fn orients_the_corners_of_a_square(rt: HostRuntime) {
+    let (p, q, r) = (at(0, 0), at(4, 0), at(4, 4));
+    assert_eq!(rt; orient(p, q, r), 16);
+    assert_eq!(rt; orient(q, p, r), -16);
+    assert_eq!(rt; orient(p, q, at(8, 0)), 0);
+    assert_eq!(rt; orient(at(8, 0), at(4, -2), at(4, 2)), -16);
+}
+
+#[test]
+fn orients_the_widest_triangle(rt: HostRuntime) {
+    let (p, q, r) = (at(-LIMIT, -LIMIT), at(LIMIT, -LIMIT), at(LIMIT, LIMIT));
+    assert_eq!(rt; orient(p, q, r), 288230376151711744);
+}
+
+#[test]
+fn turns_left_and_right_and_not_at_all(rt: HostRuntime) {
+    let (p, q) = (at(0, 0), at(3, 1));
+    assert_eq!(rt; turn_of(p, q, at(0, 1)), Turn::Left);
+    assert_eq!(rt; turn_of(p, q, at(-6, -2)), Turn::Flat);
+    assert_eq!(rt; turn_of(p, q, at(4, 1)), Turn::Right);
+}
+
+#[test]
+fn squares_the_distance(rt: HostRuntime) {
+    assert_eq!(rt; len2(at(1, 2), at(4, -2)), 25);
+    assert_eq!(rt;
+        len2(at(-LIMIT, -LIMIT), at(LIMIT, LIMIT)),
+        576460752303423488
+    );
+}
+
+#[test]
+fn states_the_law_of_the_two_cuts(rt: HostRuntime) {
+    flip_cuts_agree();
+    let (p, q, c, d) = (at(0, 0), at(8, 0), at(4, 2), at(4, -2));
+    assert_eq!(rt; orient(p, q, c), 16);
+    assert_eq!(rt; orient(q, p, d), 16);
+    assert_eq!(rt; orient(p, d, c), 16);
+    assert_eq!(rt; orient(q, c, d), 16);
+}
