@@ -1,0 +1,4 @@
+pub mod Text
+pub mod Token
+pub mod Number
+pub mod Written

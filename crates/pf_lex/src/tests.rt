@@ -1,0 +1,173 @@
+use crate::{Lines, NumFault, Token, natural, whole};
+use std::process::Abort;
+use std::test::Fail;
+
+fn token(text: &[u8]) -> Token<'_> {
+    Token {
+        text,
+        line: 1,
+        column: 1,
+    }
+}
+
+#[test]
+fn natural_words(rt: HostRuntime) {
+    let table = [
+        ("0", Ok(0)),
+        ("7", Ok(7)),
+        ("007", Ok(7)),
+        ("1048576", Ok(1_048_576)),
+        ("4611686018427387903", Ok(4_611_686_018_427_387_903)),
+        ("4611686018427387904", Ok(4_611_686_018_427_387_904)),
+        ("04611686018427387904", Ok(4_611_686_018_427_387_904)),
+        ("4611686018427387905", Err(NumFault::TooLarge)),
+        ("9223372036854775808", Err(NumFault::TooLarge)),
+        ("18446744073709551616", Err(NumFault::TooLarge)),
+        ("99999999999999999999999999", Err(NumFault::TooLarge)),
+        ("", Err(NumFault::NotWhole)),
+        ("+7", Err(NumFault::NotWhole)),
+        ("-0", Err(NumFault::NotWhole)),
+        ("2.", Err(NumFault::NotWhole)),
+        ("2.0", Err(NumFault::NotWhole)),
+        ("x", Err(NumFault::NotWhole)),
+        ("7x", Err(NumFault::NotWhole)),
+        ("99999999999999999999999999x", Err(NumFault::NotWhole)),
+        ("0x10", Err(NumFault::NotWhole)),
+    ];
+    for (word, answer) in table {
+        assert_eq!(rt; natural(token(word.as_bytes())), answer, "{word}");
+    }
+}
+
+#[test]
+fn whole_words(rt: HostRuntime) {
+    let table = [
+        ("2", Ok(2)),
+        ("+2", Ok(2)),
+        ("-2", Ok(-2)),
+        ("-0", Ok(0)),
+        ("0002", Ok(2)),
+        ("-0002.", Ok(-2)),
+        ("2.", Ok(2)),
+        ("2.000", Ok(2)),
+        ("-2.000", Ok(-2)),
+        ("4611686018427387904", Ok(4_611_686_018_427_387_904)),
+        ("-4611686018427387904.0", Ok(-4_611_686_018_427_387_904)),
+        ("4611686018427387905", Err(NumFault::TooLarge)),
+        ("-4611686018427387905.", Err(NumFault::TooLarge)),
+        ("-9223372036854775808", Err(NumFault::TooLarge)),
+        ("4611686018427387905.5", Err(NumFault::NotWhole)),
+        ("2.5", Err(NumFault::NotWhole)),
+        ("2.05", Err(NumFault::NotWhole)),
+        ("2.0.", Err(NumFault::NotWhole)),
+        (".0", Err(NumFault::NotWhole)),
+        (".", Err(NumFault::NotWhole)),
+        ("-", Err(NumFault::NotWhole)),
+        ("+.", Err(NumFault::NotWhole)),
+        ("--2", Err(NumFault::NotWhole)),
+        ("-+2", Err(NumFault::NotWhole)),
+        ("2-", Err(NumFault::NotWhole)),
+        ("2e3", Err(NumFault::NotWhole)),
+        ("2,0", Err(NumFault::NotWhole)),
+        ("", Err(NumFault::NotWhole)),
+    ];
+    for (word, answer) in table {
+        assert_eq!(rt; whole(token(word.as_bytes())), answer, "{word}");
+    }
+}
+
+#[test]
+fn words_of_thousands_of_digits(rt: HostRuntime) -> Result<(), Fail> {
+    let mut zeros = vec![in rt.alloc(); b'0'; 5000]?;
+    zeros.push(b'7')?;
+    assert_eq!(rt; natural(token(&zeros)), Ok(7));
+    assert_eq!(rt; whole(token(&zeros)), Ok(7));
+    let mut point = Vec::from_slice(rt.alloc(), b"-7.")?;
+    for _ in 0..5000 {
+        point.push(b'0')?;
+    }
+    assert_eq!(rt; whole(token(&point)), Ok(-7));
+    let nines = vec![in rt.alloc(); b'9'; 5000]?;
+    assert_eq!(rt; natural(token(&nines)), Err(NumFault::TooLarge));
+    assert_eq!(rt; whole(token(&nines)), Err(NumFault::TooLarge));
+    Ok(())
+}
+
+// The text has these tokens, as line, column and word, and this number of the line after the last.
+fn assert_tokens(rt: &impl Abort, text: &[u8], tokens: &[(u32, u32, &str)], past: u32) {
+    assert!(rt; text.len() < 1000);
+    let mut lines = Lines::new(text);
+    assert_eq!(rt; lines.past(), past);
+    let mut found: usize = 0;
+    while let Some(words) = lines.next_line() {
+        let number = words.line();
+        for token in words {
+            assert_eq!(rt; token.line, number);
+            assert!(rt;
+                found < tokens.len(),
+                "one word too many at line {}",
+                token.line
+            );
+            let (line, column, word) = tokens[found];
+            assert_eq!(rt; token.line, line, "the line of {word}");
+            assert_eq!(rt; token.column, column, "the column of {word}");
+            assert_eq!(rt; token.text, word.as_bytes());
+            found += 1;
+        }
+    }
+    assert_eq!(rt; found, tokens.len());
+    assert_eq!(rt; lines.past(), past);
+    assert!(rt; lines.next_line().is_none());
+}
+
+#[test]
+fn texts_without_a_word(rt: HostRuntime) {
+    assert_tokens(&rt, b"", &[], 1);
+    assert_tokens(&rt, b"\n", &[], 2);
+    assert_tokens(&rt, b"\n\n\n", &[], 4);
+    assert_tokens(&rt, b" \t\r", &[], 2);
+    assert_tokens(&rt, b"# a\n  #b\n\n \t\r\n#c", &[], 6);
+    assert_tokens(&rt, b"#\n", &[], 2);
+}
+
+#[test]
+fn texts_with_words(rt: HostRuntime) {
+    assert_tokens(&rt, b"x", &[(1, 1, "x")], 2);
+    assert_tokens(&rt, b"x\n", &[(1, 1, "x")], 2);
+    assert_tokens(&rt, b"\n\nx", &[(3, 1, "x")], 4);
+    assert_tokens(
+        &rt,
+        b"4  2  0  1\r\n   1    0\t0    1\n\n# Generated by triangle\n  -5 # 6\n",
+        &[
+            (1, 1, "4"),
+            (1, 4, "2"),
+            (1, 7, "0"),
+            (1, 10, "1"),
+            (2, 4, "1"),
+            (2, 9, "0"),
+            (2, 11, "0"),
+            (2, 16, "1"),
+            (5, 3, "-5"),
+        ],
+        6,
+    );
+    assert_tokens(&rt, b"1#2 3\n4", &[(1, 1, "1"), (2, 1, "4")], 3);
+    assert_tokens(
+        &rt,
+        b"1\r2\r\n3",
+        &[(1, 1, "1"), (1, 3, "2"), (2, 1, "3")],
+        3,
+    );
+    assert_tokens(
+        &rt,
+        b"\x0ba\x0c \0",
+        &[(1, 1, "\x0ba\x0c"), (1, 5, "\0")],
+        2,
+    );
+    assert_tokens(
+        &rt,
+        "\u{feff}1 é".as_bytes(),
+        &[(1, 1, "\u{feff}1"), (1, 6, "é")],
+        2,
+    );
+}
