@@ -1,0 +1,16 @@
+pub mod Members
+pub mod RisingLemmas
+pub mod Patch
+pub mod Triangles
+pub mod Turns
+pub mod ReadClauses
+pub mod Kept
+pub mod FlipKeeps
+pub mod Totals
+pub mod EdgeSum
+pub mod FlipArea
+pub mod ReplayKeeps
+pub mod Replacement
+pub mod BuiltConforms
+pub mod ConformingOnce
+pub mod Rows

@@ -1,0 +1,11 @@
+pub mod Rising
+pub mod Clauses
+pub mod Mesh
+pub mod Conforming
+pub mod Conditions
+pub mod Applied
+pub mod Replay
+pub mod Sums
+pub mod Build
+pub mod Texts
+pub mod Laws

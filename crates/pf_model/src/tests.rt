@@ -1,0 +1,38 @@
+//! What no clause says: that the laws can be called, and the texts of errors.
+
+use super::*;
+use std::alloc::AllocError;
+
+#[test]
+fn states_its_laws() {
+    built_is_conforming();
+    edge_sum_is_boundary_sum();
+    operation_keeps_conforming();
+    operation_keeps_area();
+    journal_keeps_conforming();
+    journal_keeps_area();
+}
+
+#[test]
+fn says_why_there_is_no_mesh(rt: HostRuntime) -> Result<(), AllocError> {
+    let cases = [
+        (
+            BuildErr::BadNode { tri: 0, node: 7 },
+            "triangle 0: node 7 isn't in the list of points",
+        ),
+        (
+            BuildErr::Flat { tri: 2 },
+            "triangle 2: its corners lie on one line",
+        ),
+        (
+            BuildErr::EdgeTwice { a: 0, b: 1 },
+            "the edge from 0 to 1 stands in two triangles",
+        ),
+        (BuildErr::Memory, "memory ran out"),
+    ];
+    for (error, wanted) in cases {
+        let text = format!(in rt.alloc(); "{error}")?;
+        assert_eq!(rt; text.as_str(), wanted);
+    }
+    Ok(())
+}
