@@ -1,0 +1,14 @@
+pub mod Sides
+pub mod Exchange
+pub mod TableSteps
+pub mod ListingLemmas
+pub mod Replaced
+pub mod FlipExchange
+pub mod MeshLemmas
+pub mod FlipCan
+pub mod BuildLaw
+pub mod BuiltConforms
+pub mod BuildList
+pub mod SortedIs
+pub mod SitesListed
+pub mod BuildKept

@@ -1,0 +1,13 @@
+use Rattle.std.proofs.Common.{refl}
+use Rattle.pf_mesh.proofs.Sides.{side_at-updates}
+use Rattle.pf_mesh.proofs.table.enter.Goals as goal
+
+pub returns-clause-sides : goal.returns-clause-sides
+returns-clause-sides c = λ a b.
+    let u1 = rw c.unwrap.ensures at c.insert.ensures.updates in
+    let u2 = rw c.unwrap-2.ensures at c.insert-2.ensures.updates in
+    let u3 = rw c.unwrap-3.ensures at c.insert-3.ensures.updates in
+    let s1 = side_at-updates c.args.sides.now c.insert.new.self _ _ _ u1 a b in
+    let s2 = side_at-updates c.insert.new.self c.insert-2.new.self _ _ _ u2 a b in
+    let s3 = side_at-updates c.insert-2.new.self c.insert-3.new.self _ _ _ u3 a b in
+    rw (s3, s2, s1) refl

@@ -1,0 +1,101 @@
+//! The first condition that an operation fails, by the edge table.
+ghost use Rattle.std.specs.Prelude.{◌≡◌, ℕ, ◌&&◌, ◌||◌, ◌++◌, Option, min, max, int_lt};
+ghost use Rattle.std.specs.Option.{option_map};
+ghost use Rattle.pf_geom.specs.Plane.{IsInRange, orient_of, len2_of};
+ghost use Rattle.pf_model.specs.Clauses.{first_of};
+ghost use Rattle.pf_model.specs.Mesh.{Undivided, side_of};
+ghost use Rattle.pf_model.specs.Conditions.{is_owned, is_positive, apex_or, edge_clauses, flip_clauses, first_failing};
+ghost use Rattle.pf_model.specs.declared.Op.TheVariants.{Flip};
+ghost use Rattle.pf_mesh.specs.Table.{side_value, AreInRange, Shows};
+
+use crate::table::{EdgeTable, Left};
+use pf_geom::{Point, len2, orient};
+use pf_model::Cond;
+
+// Whether the side is there, with this owner.
+fn is_owned_by(side: Option<Left>, chunk: u16) -> bool
+    ensures { result ≡ is_owned chunk (option_map side_value side) }
+{
+    match side {
+        Some(left) => left.owner == chunk,
+        None => false,
+    }
+}
+
+// Whether the path turns left.
+fn turns_left(a: Point, b: Point, c: Point) -> bool
+    requires a { IsInRange a }
+    requires b { IsInRange b }
+    requires c { IsInRange c }
+    ensures { result ≡ is_positive (orient_of a b c) }
+{
+    orient(a, b, c) > 0
+}
+
+// Whether the first edge is shorter than the second.
+fn is_shorter(a: Point, b: Point, c: Point, d: Point) -> bool
+    requires a { IsInRange a }
+    requires b { IsInRange b }
+    requires c { IsInRange c }
+    requires d { IsInRange d }
+    ensures { result ≡ int_lt (len2_of a b) (len2_of c d) }
+{
+    len2(a, b) < len2(c, d)
+}
+
+impl EdgeTable {
+    // The conditions of every operation at an edge.
+    fn edge_condition(&self, chunk: u16, a: u32, b: u32) -> Option<Cond>
+        ensures { (m : Undivided) → Shows self.now.sides self.now.nodes.items m → result ≡ first_of (edge_clauses m chunk a b) }
+    {
+        if a == b || !self.is_edge(a, b) {
+            return Some(Cond::NoEdge);
+        }
+        if !(is_owned_by(self.side(a, b), chunk) || is_owned_by(self.side(b, a), chunk)) {
+            return Some(Cond::Foreign);
+        }
+        None
+    }
+
+    // The conditions of a flip alone.
+    fn turning_condition(&self, lo: u32, hi: u32) -> Option<Cond>
+        requires { AreInRange self.now.nodes.items }
+        ensures { (m : Undivided) → Shows self.now.sides self.now.nodes.items m
+            → result ≡ first_of (flip_clauses m lo hi (apex_or (side_of m.tris lo hi)) (apex_or (side_of m.tris hi lo))) }
+    {
+        let Some(left) = self.side(lo, hi) else {
+            return Some(Cond::OnBoundary);
+        };
+        let Some(right) = self.side(hi, lo) else {
+            return Some(Cond::OnBoundary);
+        };
+        let (c, d) = (left.apex, right.apex);
+        let (at_lo, at_hi, at_c, at_d) = (
+            self.place(lo),
+            self.place(hi),
+            self.place(c),
+            self.place(d),
+        );
+        if !(turns_left(at_lo, at_d, at_c) && turns_left(at_hi, at_c, at_d)) {
+            return Some(Cond::NotConvex);
+        }
+        if !is_shorter(at_c, at_d, at_lo, at_hi) {
+            return Some(Cond::NotShorter);
+        }
+        if self.is_edge(c, d) {
+            return Some(Cond::EdgeThere { c, d });
+        }
+        None
+    }
+
+    // The first condition that a flip fails.
+    pub fn flip_condition(&self, chunk: u16, a: u32, b: u32) -> Option<Cond>
+        requires { AreInRange self.now.nodes.items }
+        ensures { (m : Undivided) → Shows self.now.sides self.now.nodes.items m → result ≡ first_failing m chunk (Flip a b) }
+    {
+        match self.edge_condition(chunk, a, b) {
+            Some(cond) => Some(cond),
+            None => self.turning_condition(a.min(b), a.max(b)),
+        }
+    }
+}
