@@ -1,0 +1,4 @@
+pub mod Filled
+pub mod JournalReads
+pub mod ReadLemmas
+pub mod WriteLemmas
