@@ -1,0 +1,7 @@
+pub mod InputLemmas
+pub mod Reading
+pub mod ReplayLemmas
+pub mod OutputLemmas
+pub mod RunFacts
+pub mod Said
+pub mod BuiltFresh

@@ -1,0 +1,12 @@
+pub mod Words
+pub mod Shown
+pub mod Place
+pub mod Conditions
+pub mod Faults
+pub mod Stop
+pub mod Input
+pub mod Causes
+pub mod Replay
+pub mod Output
+pub mod Ends
+pub mod Runs

@@ -1,0 +1,127 @@
+// The replay of a journal on a mesh.
+ghost use Rattle.std.specs.Prelude.{◌≡◌, ◌≢◌, ℕ, ◌+◌, ◌<◌, ◌≤◌, [], ◌∷◌, ◌++◌, Ok, Err, length, IfOk, IfErr, OnOk};
+ghost use Rattle.pf_shelf.specs.Files.{Tells, held};
+ghost use Rattle.pf_model.specs.Conforming.{IsLive};
+ghost use Rattle.pf_journal.specs.Entries.{HasTickets};
+ghost use Rattle.pf_model.specs.Texts.{replay_report};
+ghost use Rattle.pf_cmd.specs.Causes.{seen, IsOnlyRead, IsInner, Explains};
+ghost use Rattle.pf_cmd.specs.Shown.{stems_of};
+ghost use Rattle.pf_cmd.specs.Replay.{mesh_after, replay_in};
+ghost use Rattle.pf_cmd.specs.Output.{given_of, replay_given};
+
+use crate::input::{Numbered, read_entries, read_mesh};
+use crate::output::{Output, out_file};
+use crate::place::{Place, Stems};
+use crate::stop::Stop;
+use itoa::{Buffer, Integer};
+use pf_forms::area2;
+use pf_mesh::{ApplyErr, Entry, Mesh};
+use pf_shelf::Shelf;
+use std::alloc::{AllocError, Global};
+use tri_files::{ele_text, node_text};
+
+/// A mesh after a journal of so many entries, and the number of the first node in its files.
+#[derive(Drop)]
+pub(crate) struct Replayed {
+    base: u32,
+    mesh: Mesh,
+    operations: u32,
+}
+
+/// The mesh of the files after the journal.
+pub(crate) fn replay<S: Shelf>(
+    alloc: Global,
+    shelf: &mut S,
+    stems: Stems<'_>,
+    scale: u32,
+) -> Result<Replayed, Stop>
+    requires scale_low { 1 ≤ scale }
+    requires scale_high { scale ≤ 1048576 }
+    ensures replayed { Tells (S.told shelf.old) → IfOk result (λ after.
+        replay_in (held (S.told shelf.old)) (stems_of stems.entry) scale ≡ Ok record { base = after.base; mesh = after.mesh; operations = after.operations }) }
+    ensures base { IfOk result (λ after. after.base ≤ 1) }
+    ensures stop { IfErr result (Explains (seen S.told S.read_faults S.write_faults S.misses shelf.old) (seen S.told S.read_faults S.write_faults S.misses shelf.new)
+        (replay_in (held (S.told shelf.old)) (stems_of stems.entry) scale)) }
+    ensures only_read { IsOnlyRead (seen S.told S.read_faults S.write_faults S.misses shelf.old) (seen S.told S.read_faults S.write_faults S.misses shelf.new) }
+{
+    let Numbered { base, mut mesh } = read_mesh(alloc, shelf, stems, scale)?;
+    let entries = read_entries(alloc, shelf, stems, mesh.first_new())?;
+    apply_all(&mut mesh, &entries)?;
+    let operations = entries.len() as u32;
+    Ok(Replayed {
+        base,
+        mesh,
+        operations,
+    })
+}
+
+/// The texts of a replay.
+pub(crate) fn replay_output(
+    alloc: Global,
+    stems: Stems<'_>,
+    after: &Replayed,
+) -> Result<Output, Stop>
+    requires { after.now.base ≤ 1 }
+    ensures memory { IfErr result (λ stop. stop ≡ Stop.Memory) }
+    ensures output { IfOk result (λ output. given_of output ≡ replay_given (stems_of stems.entry) record { base = after.now.base; mesh = after.now.mesh; operations = after.now.operations }) }
+{
+    let node_text = node_text(alloc, &after.mesh, after.base)?;
+    let ele_text = ele_text(alloc, &after.mesh, after.base)?;
+    let report = report_text(alloc, after)?;
+    let mut files = Vec::new(alloc);
+    files.push(out_file(alloc, stems, Place::OutNode, node_text)?)?;
+    files.push(out_file(alloc, stems, Place::OutEle, ele_text)?)?;
+    Ok(Output { files, report })
+}
+
+/// Applies the entries one after another, up to the first that is refused.
+pub(crate) fn apply_all(mesh: &mut Mesh, entries: &[Entry]) -> Result<(), Stop>
+    requires fresh { (n : ℕ) → IsLive mesh.old n → n < mesh.old.first_new }
+    requires tickets { HasTickets entries.now }
+    requires limit { mesh.old.first_new + length entries.now ≤ 1048576 }
+    ensures all { OnOk result (mesh_after mesh.old entries.now ≡ Ok mesh.new) }
+    ensures stop { IfErr result (λ stop. stop ≢ Stop.Memory → mesh_after mesh.old entries.now ≡ Err stop) }
+    ensures inner { IfErr result IsInner }
+{
+    for entry in entries {
+        match mesh.apply(entry) {
+            Ok(()) => {}
+            Err(ApplyErr::Refused { cond }) => {
+                return Err(Stop::Fails {
+                    ticket: entry.ticket,
+                    cond,
+                });
+            }
+            Err(ApplyErr::Gone { node }) => {
+                return Err(Stop::Gone {
+                    ticket: entry.ticket,
+                    node,
+                });
+            }
+            Err(ApplyErr::Memory) => return Err(Stop::Memory),
+        }
+    }
+    Ok(())
+}
+
+// The report: how many operations, nodes and triangles there are, and twice the area.
+fn report_text(alloc: Global, after: &Replayed) -> Result<Vec<u8>, AllocError>
+    ensures { IfOk result (λ text. text.items ≡ replay_report after.now.operations after.now.mesh) }
+{
+    let mut text = Vec::new(alloc);
+    put_line(&mut text, b"operations ", after.operations)?;
+    put_line(&mut text, b"nodes ", after.mesh.sites().len())?;
+    put_line(&mut text, b"triangles ", after.mesh.tris().len())?;
+    put_line(&mut text, b"area2 ", area2(&after.mesh))?;
+    Ok(text)
+}
+
+// A word, a number and the end of the line.
+fn put_line<I: Integer>(text: &mut Vec<u8>, word: &[u8], number: I) -> Result<(), AllocError>
+    ensures { OnOk result (text.new.items ≡ text.old.items ++ word.now ++ I.text number ++ 10 ∷ []) }
+{
+    text.extend_from_slice(word)?;
+    text.extend_from_slice(Buffer::new().format(number).as_bytes())?;
+    text.push(b'\n')?;
+    Ok(())
+}
