@@ -25,6 +25,10 @@ said-status status text silent heard r h = elim h.by [ inl a ↦ inl a.0 | inr b
 said-whole : (status : ℕ) (text : List ℕ) (silent heard : Heard) (r : ℕ) → Says status text silent heard r → r ≢ 4 → heard.told ≡ extended silent.told text
 said-whole status text silent heard r h ne = elim h.by [ inl a ↦ a.1 | inr b ↦ absurd (ne b.0) ]
 
+-- a status that isn't 4 is the one that goes with the text
+said-at : (status : ℕ) (text : List ℕ) (silent heard : Heard) (r : ℕ) → Says status text silent heard r → r ≢ 4 → r ≡ status
+said-at status text silent heard r h ne = elim h.by [ inl a ↦ a.0 | inr b ↦ absurd (ne b.0) ]
+
 -- no reason to stop has status 0 or 2
 status-kinds : (stop : Stop) → (status_of stop ≡ 0 → ⊥) × (status_of stop ≡ 2 → ⊥)
 status-kinds (Unread place) = (λ e. omega arith, λ e. omega arith)
@@ -94,6 +98,10 @@ ends-shows given old new stop h = elim h.by [
 ends-before : (given : Result Given Stop) (old new : Seen) (stop : Stop) → Ends given old new stop → (IsUnwritten stop → ⊥) → IsAsBefore old.told new.told
 ends-before given old new stop h other = elim h.by [ inl w ↦ absurd (other w.0) | inr x ↦ x.1.files ]
 
+-- a status that is 1, 6 or 7 isn't 4
+not-four : (r : ℕ) → (r ≡ 1) ⊎ ((r ≡ 6) ⊎ (r ≡ 7)) → r ≢ 4
+not-four r e f = none-of r (λ x. omega arith) (λ x. omega arith) (λ x. omega arith) e
+
 module _ (words : List (List ℕ)) (old new : Seen) (silent heard : Heard) (r : ℕ) where
   pub run-done : Runs words old new silent heard r → Tells old.told → r ≡ 0 → IsPerformed words old new silent heard
   run-done (refused none read says) t e = absurd (elim (said-status _ _ silent heard r says) [ inl a ↦ omega arith | inr b ↦ omega arith ])
@@ -131,11 +139,11 @@ module _ (words : List (List ℕ)) (old new : Seen) (silent heard : Heard) (r : 
   run-unwritten (stopped command asked stop ends says) e = elim says.by [ inl a ↦ inl ((ends-shows _ old new stop ends).unwritten (sym a.0 ∙ e)) | inr b ↦ inr b.1 ]
   run-unwritten (forgot command asked stop ends other says) e = elim says.by [ inl a ↦ absurd (let p = a.0 in omega arith) | inr b ↦ inr b.1 ]
 
-  pub run-refused : Runs words old new silent heard r → Tells old.told → (r ≡ 1) ⊎ ((r ≡ 6) ⊎ (r ≡ 7)) → IsRefusal words old r
+  pub run-refused : Runs words old new silent heard r → Tells old.told → (r ≡ 1) ⊎ ((r ≡ 6) ⊎ (r ≡ 7)) → IsRefusal words old silent heard r
   run-refused (refused none read says) t e = absurd (elim (said-status _ _ silent heard r says) [ inl a ↦ none-of r (λ x. omega arith) (λ x. omega arith) (λ x. omega arith) e | inr b ↦ none-of r (λ x. omega arith) (λ x. omega arith) (λ x. omega arith) e ])
   run-refused (done command asked report is says) t e = absurd (elim (said-status _ _ silent heard r says) [ inl a ↦ none-of r (λ x. omega arith) (λ x. omega arith) (λ x. omega arith) e | inr b ↦ none-of r (λ x. omega arith) (λ x. omega arith) (λ x. omega arith) e ])
   run-refused (stopped command asked stop ends says) t e = elim (said-status _ _ silent heard r says) [
-    | inl a ↦ record { command = command; asked = asked; stop = stop; reason = (ends-shows _ old new stop ends).reason (subst (λ n. (n ≡ 1) ⊎ ((n ≡ 6) ⊎ (n ≡ 7))) a e) t; status = sym a }
+    | inl a ↦ record { command = command; asked = asked; stop = stop; reason = (ends-shows _ old new stop ends).reason (subst (λ n. (n ≡ 1) ⊎ ((n ≡ 6) ⊎ (n ≡ 7))) a e) t; status = sym a; said = said-whole _ _ silent heard r says (not-four r e) }
     | inr b ↦ none-of r (λ x. omega arith) (λ x. omega arith) (λ x. omega arith) e
   ]
   run-refused (forgot command asked stop ends other says) t e = absurd (elim (said-status _ _ silent heard r says) [ inl a ↦ none-of r (λ x. omega arith) (λ x. omega arith) (λ x. omega arith) e | inr b ↦ none-of r (λ x. omega arith) (λ x. omega arith) (λ x. omega arith) e ])
@@ -147,10 +155,13 @@ module _ (words : List (List ℕ)) (old new : Seen) (silent heard : Heard) (r : 
   run-as_before (forgot command asked stop ends other says) z f = ends-before _ old new stop ends other
 
   pub run-one_line : Runs words old new silent heard r → r ≢ 0 → r ≢ 4 → IsLine words silent heard r
-  run-one_line (refused none read says) z f = record { line = words_text; is = inl refl; said = said-whole _ _ silent heard r says f }
-  run-one_line (done command asked report is says) z f = absurd (elim (said-status _ _ silent heard r says) [ inl a ↦ z a | inr b ↦ f b ])
-  run-one_line (stopped command asked stop ends says) z f = elim (said-status _ _ silent heard r says) [
-    | inl a ↦ record { line = line_of (stems_in command) stop; is = inr (inr (command, stop, asked, sym a, refl)); said = said-whole _ _ silent heard r says f }
-    | inr b ↦ absurd (f b)
-  ]
-  run-one_line (forgot command asked stop ends other says) z f = record { line = memory_text; is = inr (inl refl); said = said-whole _ _ silent heard r says f }
+  run-one_line (refused none read says) z f = record { line = words_text; is = inl (said-at _ _ silent heard r says f, refl); said = said-whole _ _ silent heard r says f }
+  run-one_line (done command asked report is says) z f = absurd (z (said-at _ _ silent heard r says f))
+  run-one_line (stopped command asked stop ends says) z f = record { line = line_of (stems_in command) stop; is = inr (inr (command, stop, asked, sym (said-at _ _ silent heard r says f), refl)); said = said-whole _ _ silent heard r says f }
+  run-one_line (forgot command asked stop ends other says) z f = record { line = memory_text; is = inr (inl (said-at _ _ silent heard r says f, refl)); said = said-whole _ _ silent heard r says f }
+
+  pub run-line_at_4 : Runs words old new silent heard r → r ≡ 4 → IsLine words silent heard r ⊎ Rose silent.faults heard.faults
+  run-line_at_4 (refused none read says) e = elim says.by [ inl a ↦ absurd (let p = a.0 in omega arith) | inr b ↦ inr b.1 ]
+  run-line_at_4 (done command asked report is says) e = elim says.by [ inl a ↦ absurd (let p = a.0 in omega arith) | inr b ↦ inr b.1 ]
+  run-line_at_4 (stopped command asked stop ends says) e = elim says.by [ inl a ↦ inl (record { line = line_of (stems_in command) stop; is = inr (inr (command, stop, asked, sym a.0, refl)); said = a.1 }) | inr b ↦ inr b.1 ]
+  run-line_at_4 (forgot command asked stop ends other says) e = elim says.by [ inl a ↦ absurd (let p = a.0 in omega arith) | inr b ↦ inr b.1 ]

@@ -38,16 +38,17 @@ pub record IsPerformed (words : List (List ℕ)) (old new : Seen) (silent heard 
   pub done : IsDone (given_by (held old.told) command) old new report
   pub said : heard.told ≡ extended silent.told report
 
--- the files, as they are when the run begins, give this reason to stop, with this status
-pub record IsRefusal (words : List (List ℕ)) (old : Seen) (result : ℕ) : Type 0 where
+-- the files, as they are when the run begins, give this reason to stop, with this status, and its line was said
+pub record IsRefusal (words : List (List ℕ)) (old : Seen) (silent heard : Heard) (result : ℕ) : Type 0 where
   pub command : Command
   pub asked : command_of words ≡ Some command
   pub stop : Stop
   pub reason : given_by (held old.told) command ≡ Err stop
   pub status : status_of stop ≡ result
+  pub said : heard.told ≡ extended silent.told (line_of (stems_in command) stop)
 
 -- one line was said: that of a reason with this status
 pub record IsLine (words : List (List ℕ)) (silent heard : Heard) (result : ℕ) : Type 0 where
   pub line : List ℕ
-  pub is : (line ≡ words_text) ⊎ ((line ≡ memory_text) ⊎ ((command : Command) × (stop : Stop) × (command_of words ≡ Some command) × (status_of stop ≡ result) × (line ≡ line_of (stems_in command) stop)))
+  pub is : ((result ≡ 2) × (line ≡ words_text)) ⊎ (((result ≡ 5) × (line ≡ memory_text)) ⊎ ((command : Command) × (stop : Stop) × (command_of words ≡ Some command) × (status_of stop ≡ result) × (line ≡ line_of (stems_in command) stop)))
   pub said : heard.told ≡ extended silent.told line

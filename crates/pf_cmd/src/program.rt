@@ -38,11 +38,12 @@ pub fn run<S: Shelf, K: Sink>(alloc: Global, words: &[&str], shelf: &mut S, out:
     ensures unread { result ≡ 3 → Rose (S.read_faults shelf.old) (S.read_faults shelf.new) }
     ensures missing { result ≡ 7 → Rose (S.misses shelf.old) (S.misses shelf.new) }
     ensures unwritten { result ≡ 4 → Rose (S.write_faults shelf.old) (S.write_faults shelf.new) ⊎ Rose (K.faults out.old) (K.faults out.new) }
-    ensures refused { Tells (S.told shelf.old) → (result ≡ 1) ⊎ ((result ≡ 6) ⊎ (result ≡ 7)) → IsRefusal (texts_of words.now) (seen S.told S.read_faults S.write_faults S.misses shelf.old) result }
+    ensures refused { Tells (S.told shelf.old) → (result ≡ 1) ⊎ ((result ≡ 6) ⊎ (result ≡ 7)) → IsRefusal (texts_of words.now) (seen S.told S.read_faults S.write_faults S.misses shelf.old) record { faults = K.faults out.old; told = K.told out.old } record { faults = K.faults out.new; told = K.told out.new } result }
 
     // A run that isn't done leaves every file as it was, unless a write failed.
     ensures as_before { result ≢ 0 → result ≢ 4 → IsAsBefore (S.told shelf.old) (S.told shelf.new) }
     ensures one_line { result ≢ 0 → result ≢ 4 → IsLine (texts_of words.now) record { faults = K.faults out.old; told = K.told out.old } record { faults = K.faults out.new; told = K.told out.new } result }
+    ensures line_at_4 { result ≡ 4 → IsLine (texts_of words.now) record { faults = K.faults out.old; told = K.told out.old } record { faults = K.faults out.new; told = K.told out.new } result ⊎ Rose (K.faults out.old) (K.faults out.new) }
 
     // Whatever it answers, a file that the command doesn't write is as before.
     ensures others { (command : Asked) (name : List ℕ) → command_of (texts_of words.now) ≡ Some command → IsUnnamed command name →

@@ -1,4 +1,4 @@
-use Rattle.pf_cmd.proofs.RunFacts.{run-done, run-words_only, run-words_always, run-unread, run-missing, run-unwritten, run-refused, run-as_before, run-one_line}
+use Rattle.pf_cmd.proofs.RunFacts.{run-done, run-words_only, run-words_always, run-unread, run-missing, run-unwritten, run-refused, run-as_before, run-one_line, run-line_at_4}
 use Rattle.pf_cmd.proofs.program.run.Goals as goal
 
 pub returns-clause-done : goal.returns-clause-done
@@ -27,3 +27,6 @@ returns-clause-as_before g c = run-as_before _ _ _ _ _ _ c.ran.ensures.runs
 
 pub returns-clause-one_line : goal.returns-clause-one_line
 returns-clause-one_line g c = run-one_line _ _ _ _ _ _ c.ran.ensures.runs
+
+pub returns-clause-line_at_4 : goal.returns-clause-line_at_4
+returns-clause-line_at_4 g c = run-line_at_4 _ _ _ _ _ _ c.ran.ensures.runs
