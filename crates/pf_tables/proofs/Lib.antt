@@ -1,0 +1,5 @@
+pub mod Filled
+pub mod KeptLemmas
+pub mod PartLemmas
+pub mod PartReads
+pub mod SizeLemmas

@@ -1,0 +1,6 @@
+pub mod Steps
+pub mod Part
+pub mod Size
+pub mod RowWords
+pub mod Kept
+pub mod Laws
