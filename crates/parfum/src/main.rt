@@ -3,27 +3,32 @@
 #![tactic(auto)]
 
 use pf_cmd::run;
-use pf_shelf::{FileShelf, StdSink};
+use pf_shelf::{FileShelf, StdSink, WriteErr, say_all};
 use std::alloc::AllocError;
 use std::env;
+use std::io::ErrorKind;
 use std::process::ExitCode;
 
-/// The status where the system doesn't give the words as text.
-const WORDS_REFUSED: u8 = 2;
+const WORDS_REFUSED: &[u8] = b"parfum: words refused\n";
 
-/// The status where memory ran out before the run began.
-const NO_MEMORY: u8 = 5;
+const NO_MEMORY: &[u8] = b"parfum: out of memory\n";
 
 fn main(rt: HostRuntime) -> ExitCode {
-    let Ok(words) = env::args(&rt) else {
-        return ExitCode::from(WORDS_REFUSED);
+    let words = match env::args(&rt) {
+        Ok(words) => words,
+        Err(error) => {
+            return match error.kind() {
+                ErrorKind::OutOfMemory => end(&rt, NO_MEMORY, 5),
+                _ => end(&rt, WORDS_REFUSED, 2),
+            };
+        }
     };
     let Ok(words) = words.skip(1).collect::<Vec<String>>(rt.alloc()) else {
-        return ExitCode::from(NO_MEMORY);
+        return end(&rt, NO_MEMORY, 5);
     };
     match run_words(&rt, &words) {
         Ok(status) => ExitCode::from(status),
-        Err(_) => ExitCode::from(NO_MEMORY),
+        Err(_) => end(&rt, NO_MEMORY, 5),
     }
 }
 
@@ -36,4 +41,12 @@ fn run_words(rt: &HostRuntime, texts: &[String]) -> Result<u8, AllocError> {
     let mut shelf = FileShelf::new(rt);
     let mut out = StdSink::new(rt);
     Ok(run(rt.alloc(), &words, &mut shelf, &mut out))
+}
+
+// Says why no run could begin: the system's words aren't text, or memory ran out.
+fn end(rt: &HostRuntime, line: &[u8], status: u8) -> ExitCode {
+    match say_all(&mut StdSink::new(rt), line) {
+        Ok(()) => ExitCode::from(status),
+        Err(WriteErr::Fault) => ExitCode::from(4),
+    }
 }
