@@ -35,3 +35,6 @@ fn place(m: &Mesh, n: u32) -> Point
 {
     m.site(n).unwrap_or(Point { x: 0, y: 0 })
 }
+
+#[cfg(test)]
+mod tests;
