@@ -1,6 +1,8 @@
 //! Values of both tables, and each fault at its place.
 use crate::part::owners_text;
 use crate::*;
+use pf_geom::Point;
+use pf_mesh::build;
 use pf_model::{Band, Tri};
 use std::alloc::Global;
 use std::process::Abort;
@@ -248,5 +250,13 @@ fn at_most_1023_rows_stand_above_the_default(rt: HostRuntime) -> Result<(), Fail
             }
         ),
     }
+    Ok(())
+}
+
+#[test]
+fn the_owners_of_a_mesh_are_written(rt: HostRuntime) -> Result<(), Fail> {
+    let kite = [(0, 0), (8, 0), (4, 2), (4, -2)].map(|(x, y)| Point { x, y });
+    let mesh = build(rt.alloc(), &kite, &[[0, 1, 2], [1, 0, 3]])?;
+    assert!(rt; part_text(rt.alloc(), &mesh)?.as_slice() == b"0\n0\n".as_slice());
     Ok(())
 }
