@@ -1,12 +1,17 @@
 #!/usr/bin/env bash
-# Takes the time of `parfum replay` on slanted grids of about 10^3 to 10^6 triangles, with an empty journal and with one of
-# FLIPS legal flips (100 if unset), and its peak memory. Prints the best of RUNS runs (5 if unset) as rows of a table in
-# Markdown. Where YARDSTICK names a program that takes the same words and files (and `.part` and `.size` files beside
-# them), its time stands beside in the same row.
+# Takes the time of `parfum replay` on slanted grids of about 10^3 to 2 * 10^6 triangles, and prints two tables in Markdown.
+#
+# The first has the whole run with an empty journal, which reads, builds and writes, and beside it two runs that stop on the
+# way: one whose `.ele` file has a line too many, which is found once all is read, and one without a `.part` file, which is
+# missed once the mesh is built. The second has journals of OPERATIONS mixed operations (1000000 if unset, or as many as names
+# are left): bisections of diagonals, contractions of the new nodes, and flips.
+#
+# Each time is the best of RUNS runs (5 if unset), of the whole process. Where YARDSTICK names a program that takes the same
+# words and files without the command's name, its time stands beside in the same row.
 set -euo pipefail
 cd "$(dirname "$0")/.."
 runs=${RUNS:-5}
-flips=${FLIPS:-100}
+operations=${OPERATIONS:-1000000}
 yardstick=${YARDSTICK:-}
 work=$(mktemp -d)
 trap 'rm -rf "$work"' EXIT
@@ -16,14 +21,16 @@ program=$PWD/crates/parfum/out/parfum
 [[ -x $program ]] || { echo "crates/parfum isn't built" >&2; exit 1; }
 cd "$work"
 
-# A grid of n by n cells, each cut by its longer diagonal, and journals that flip the first cells' diagonals.
+# A grid of n by n cells, each cut by its longer diagonal, and a journal of at most so many operations: on the first round
+# each diagonal is bisected, the new node contracted away and the diagonal flipped, on later rounds the first two.
 make_grid() {
-    awk -v n="$1" -v flips="$flips" 'BEGIN {
-        print (n + 1) * (n + 1), 2, 0, 0 > "g.node"
-        for (y = 0; y <= n; y++) for (x = 0; x <= n; x++) print k++, 10 * x + 3 * y, 10 * y > "g.node"
+    rm -f ./*.node ./*.ele ./*.part ./*.size ./*.journal
+    awk -v n="$1" -v most="$operations" 'BEGIN {
+        nodes = (n + 1) * (n + 1); t = 0
+        print nodes, 2, 0, 0 > "g.node"
+        for (y = 0; y <= n; y++) for (x = 0; x <= n; x++) print k++, 20 * x + 6 * y, 20 * y > "g.node"
         print 2 * n * n, 3, 0 > "g.ele"
         print "default 0 1152921504606846976" > "g.size"
-        printf "" > "g.part"
         for (y = 0; y < n; y++) for (x = 0; x < n; x++) {
             a = y * (n + 1) + x
             print f++, a, a + 1, a + n + 2 > "g.ele"
@@ -31,35 +38,62 @@ make_grid() {
             print "0\n0" > "g.part"
         }
         print "parfum journal 1\nend 0" > "empty.journal"
-        print "parfum journal 1" > "flips.journal"
-        for (y = 0; y < n && t < flips; y++) for (x = 0; x < n && t < flips; x++) {
-            a = y * (n + 1) + x
-            print t++, 0, "flip", a, a + n + 2 > "flips.journal"
-        }
-        print "end", t > "flips.journal"
+        print "parfum journal 1" > "mixed.journal"
+        if (most > 1048576 - nodes) most = 1048576 - nodes
+        for (round = 0; t + 3 <= most; round++)
+            for (y = 0; y < n && t + 3 <= most; y++) for (x = 0; x < n && t + 3 <= most; x++) {
+                a = y * (n + 1) + x
+                if (round == 0) { p = a; q = a + n + 2 } else { p = a + 1; q = a + n + 1 }
+                print t, 0, "bisect", p, q > "mixed.journal"
+                print t + 1, 0, "contract", nodes + t, p > "mixed.journal"
+                t += 2
+                if (round == 0) print t++, 0, "flip", p, q > "mixed.journal"
+            }
+        print "end", t > "mixed.journal"
+        print t > "count"
     }'
+    ln -s g.node long.node
+    { cat g.ele; echo more; } >long.ele
+    ln -s g.node bare.node
+    ln -s g.ele bare.ele
 }
 
-# The best time of a program on a journal in seconds, and its peak memory in KB.
+# The best time in seconds of a program on a mesh and a journal, and its peak memory in KB. The status doesn't matter.
 best() {
     for ((run = 0; run < runs; run++)); do
-        /usr/bin/time -f "%e %M" -o took "$1" replay g "$2" >said 2>/dev/null || { cat said >&2; exit 1; }
+        /usr/bin/time -q -f "%e %M" -o took "$1" replay "$2" "$3" >said 2>/dev/null || true
         cat took
     done | sort -n | head -n 1
+}
+
+# The same for a run that is to be done.
+best_done() {
+    "$1" replay g "$2" >said 2>/dev/null || { cat said >&2; exit 1; }
+    best "$1" g "$2"
 }
 
 # The yardstick takes its words without the command.
 printf '#!/bin/sh\nshift\nexec "%s" "$@"\n' "$yardstick" >yardstick
 chmod +x yardstick
+other() {
+    if [[ -z $yardstick ]]; then echo -; else read -r seconds _ < <(best_done "$work/yardstick" "$1"); echo "$seconds s"; fi
+}
 
-echo "| Date | Cores | Runs | Triangles | Journal | parfum | Peak KB | Yardstick |"
-echo "|---|---|---|---|---|---|---|---|"
+echo "| Date | Cores | Runs | Triangles | Read | Read, built | Whole | Peak KB | Yardstick |"
+echo "|---|---|---|---|---|---|---|---|---|"
 for side in 22 70 223 707; do
     make_grid "$side"
-    for journal in empty flips; do
-        read -r seconds peak < <(best "$program" "$journal")
-        other=-
-        [[ -z $yardstick ]] || read -r other _ < <(best "$work/yardstick" "$journal")
-        echo "| $(date +%F) | $(nproc) | $runs | $((2 * side * side)) | $journal | $seconds s | $peak | $other${yardstick:+ s} |"
-    done
+    read -r reads _ < <(best "$program" long empty)
+    read -r builds _ < <(best "$program" bare empty)
+    read -r whole peak < <(best_done "$program" empty)
+    echo "| $(date +%F) | $(nproc) | $runs | $((2 * side * side)) | $reads s | $builds s | $whole s | $peak | $(other empty) |"
+done
+echo
+echo "| Date | Cores | Runs | Triangles | Operations | Empty | Mixed | Peak KB | Yardstick |"
+echo "|---|---|---|---|---|---|---|---|---|"
+for side in 223 707 1000; do
+    make_grid "$side"
+    read -r empty _ < <(best_done "$program" empty)
+    read -r mixed peak < <(best_done "$program" mixed)
+    echo "| $(date +%F) | $(nproc) | $runs | $((2 * side * side)) | $(cat count) | $empty s | $mixed s | $peak | $(other mixed) |"
 done

@@ -23,14 +23,15 @@ with_file-held file look new whole others = λ i name. at name i
         go true e = rw e (ap new (same-name name file.name e) ∙ whole)
         go false e = rw e (others name (other-name name file.name e))
 
+-- the files from a place on are that one and those behind it
+pub front : (files : List OutFile) (k : ℕ) (item : OutFile) → k < length files → item ≡ get_or files k item → drop k files ≡ item ∷ drop (k + 1) files
+front files k item h e = rw (add-one, drop-cons files k item) (ap (λ x. x ∷ drop (suc k) files) (sym e))
+
 -- one more of the files is written
 pub written-more : (files : List OutFile) (k : ℕ) (item : OutFile) (look new : List ℕ → Option (List ℕ)) → k < length files → item ≡ get_or files k item → new ≡ with_file (named_text item) look → written (map named_text (drop (k + 1) files)) new ≡ written (map named_text (drop k files)) look
 written-more files k item look new h e more =
     ap (written (map named_text (drop (k + 1) files))) more
     ∙ sym (ap (λ xs. written (map named_text xs) look) (front files k item h e))
-  where
-    front : (files : List OutFile) (k : ℕ) (item : OutFile) → k < length files → item ≡ get_or files k item → drop k files ≡ item ∷ drop (k + 1) files
-    front files k item h e = rw (add-one, drop-cons files k item) (ap (λ x. x ∷ drop (suc k) files) (sym e))
 
 -- a name that is that of none isn't that of any
 pub none-at : (files : List OutFile) (name : List ℕ) (k : ℕ) (item : OutFile) → k < length files → item ≡ get_or files k item → IsNoneOf (map named_text files) name → bytes_eq name (named_text item).name ≡ false
@@ -41,9 +42,9 @@ none-at files name k item h e none = subst (λ x. bytes_eq name (named_text x).n
     go (f ∷ fs) zero h none = none.0
     go (f ∷ fs) (suc k) h none = go fs k (let l : suc k < suc (length fs) = h in omega arith) none.1
 
--- a name that is neither of two
-pub none-of-two : (f g : NamedText) (name : List ℕ) → name ≢ f.name → name ≢ g.name → IsNoneOf (f ∷ g ∷ []) name
-none-of-two f g name p q = (differs name f.name p, (differs name g.name q, tt))
+-- a name that is none of three
+pub none-of-three : (f g h : NamedText) (name : List ℕ) → name ≢ f.name → name ≢ g.name → name ≢ h.name → IsNoneOf (f ∷ g ∷ h ∷ []) name
+none-of-three f g h name p q r = (differs name f.name p, (differs name g.name q, (differs name h.name r, tt)))
   where
     differs : (a b : List ℕ) → a ≢ b → bytes_eq a b ≡ false
     differs a b ne = go (bytes_eq a b) refl

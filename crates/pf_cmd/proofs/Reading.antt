@@ -9,12 +9,14 @@ use Rattle.pf_model.specs.declared.BuildErr.{BuildErr}
 use Rattle.pf_model.specs.declared.BuildErr.TheVariants as build
 use Rattle.pf_model.specs.declared.Entry.{Entry}
 use Rattle.pf_model.specs.Mesh.{Undivided}
+use Rattle.pf_tables.specs.declared.fault.TableErr.{TableErr}
+use Rattle.pf_tables.specs.declared.fault.TableErr.TheVariants as table
 use Rattle.pf_journal.specs.declared.fault.JourErr.{JourErr}
 use Rattle.pf_journal.specs.declared.fault.JourErr.TheVariants as jour
 use Rattle.pf_cmd.specs.declared.place.Place.{Place}
 use Rattle.pf_cmd.specs.declared.stop.Stop.{Stop}
-use Rattle.pf_cmd.specs.declared.stop.Stop.TheVariants.{Unread, Unwritten, Memory, Missing, TooLong, TriFault, BuildFault, JourFault, Limit, Fails as Refused, Gone}
-use Rattle.pf_cmd.specs.Input.{◌>>=◌, tri_accepted, tri_stop, build_accepted, build_stop, jour_accepted, jour_stop}
+use Rattle.pf_cmd.specs.declared.stop.Stop.TheVariants.{Unread, Unwritten, Memory, Missing, TooLong, TriFault, BuildFault, TableFault, JourFault, Limit, Fails as Refused, Gone}
+use Rattle.pf_cmd.specs.Input.{◌>>=◌, tri_accepted, tri_stop, build_accepted, build_stop, table_accepted, table_stop, jour_accepted, jour_stop}
 use Rattle.pf_cmd.specs.Causes.{Seen, IsOnlyRead, IsCause, IsInner, Explains}
 
 pub before-trans : (old mid new : Option Files) → IsAsBefore old mid → IsAsBefore mid new → IsAsBefore old new
@@ -51,6 +53,7 @@ cause-map s s' t t' r r' (Missing place) reads misses tells same h = (misses h.0
 cause-map s s' t t' r r' (TooLong place) reads misses tells same h = λ w. same w (h (tells w))
 cause-map s s' t t' r r' (TriFault place fault) reads misses tells same h = λ w. same w (h (tells w))
 cause-map s s' t t' r r' (BuildFault fault) reads misses tells same h = λ w. same w (h (tells w))
+cause-map s s' t t' r r' (TableFault place fault) reads misses tells same h = λ w. same w (h (tells w))
 cause-map s s' t t' r r' (JourFault fault) reads misses tells same h = λ w. same w (h (tells w))
 cause-map s s' t t' r r' (Limit count) reads misses tells same h = λ w. same w (h (tells w))
 cause-map s s' t t' r r' (Refused ticket cond) reads misses tells same h = λ w. same w (h (tells w))
@@ -113,6 +116,19 @@ build_stop-cause old new r build.Memory h = tt
 pub build_stop-explains : (old new : Seen) (r : Result Undivided BuildErr) (fault : BuildErr) → (fault ≢ build.Memory → r ≡ Err fault) → Explains old new (build_accepted r) (build_stop fault)
 build_stop-explains old new r fault h = record { cause = build_stop-cause old new r fault h }
 
+table_stop-cause : {A : Type 0} (old new : Seen) (place : Place) (r : Result A TableErr) (fault : TableErr) → (fault ≢ table.Memory → r ≡ Err fault) → IsCause old new (table_accepted place r) (table_stop place fault)
+table_stop-cause old new place r (table.Short line) h = λ w. ap (table_accepted place) (h (λ e. cc))
+table_stop-cause old new place r (table.Word line column) h = λ w. ap (table_accepted place) (h (λ e. cc))
+table_stop-cause old new place r (table.Chunk line found) h = λ w. ap (table_accepted place) (h (λ e. cc))
+table_stop-cause old new place r (table.Band line) h = λ w. ap (table_accepted place) (h (λ e. cc))
+table_stop-cause old new place r table.NoDefault h = λ w. ap (table_accepted place) (h (λ e. cc))
+table_stop-cause old new place r (table.Extra line) h = λ w. ap (table_accepted place) (h (λ e. cc))
+table_stop-cause old new place r table.Memory h = tt
+
+-- a refused table
+pub table_stop-explains : {A : Type 0} (old new : Seen) (place : Place) (r : Result A TableErr) (fault : TableErr) → (fault ≢ table.Memory → r ≡ Err fault) → Explains old new (table_accepted place r) (table_stop place fault)
+table_stop-explains old new place r fault h = record { cause = table_stop-cause old new place r fault h }
+
 jour_stop-cause : (old new : Seen) (r : Result (List Entry) JourErr) (fault : JourErr) → (fault ≢ jour.Memory → r ≡ Err fault) → IsCause old new (jour_accepted r) (jour_stop fault)
 jour_stop-cause old new r jour.Head h = λ w. ap jour_accepted (h (λ e. cc))
 jour_stop-cause old new r (jour.Short line) h = λ w. ap jour_accepted (h (λ e. cc))
@@ -133,6 +149,7 @@ explained-cause old new r (Missing place) h i = absurd i
 explained-cause old new r (TooLong place) h i = λ w. h (λ e. cc)
 explained-cause old new r (TriFault place fault) h i = λ w. h (λ e. cc)
 explained-cause old new r (BuildFault fault) h i = λ w. h (λ e. cc)
+explained-cause old new r (TableFault place fault) h i = λ w. h (λ e. cc)
 explained-cause old new r (JourFault fault) h i = λ w. h (λ e. cc)
 explained-cause old new r (Limit count) h i = λ w. h (λ e. cc)
 explained-cause old new r (Refused ticket cond) h i = λ w. h (λ e. cc)

@@ -1,13 +1,9 @@
 -- The texts of the conditions that refuse an operation.
-use Rattle.std.specs.Prelude.{ℕ, List, ◌++◌, codes, decimal}
+use Rattle.std.specs.Prelude.{ℕ, List}
+use Rattle.std.specs.List.{join_with_byte}
 use Rattle.pf_model.specs.declared.Cond.{Cond}
-use Rattle.pf_model.specs.declared.Cond.TheVariants.{NoEdge, Foreign, OnBoundary, NotConvex, NotShorter, EdgeThere}
+use Rattle.pf_model.specs.Texts.{condition_words}
 
--- the text of a condition
+-- the text of a condition: its words, parted by one space each
 abbrev pub condition_text : Cond → List ℕ
-condition_text NoEdge = codes "no-edge"
-condition_text Foreign = codes "foreign"
-condition_text OnBoundary = codes "on-boundary"
-condition_text NotConvex = codes "not-convex"
-condition_text NotShorter = codes "not-shorter"
-condition_text (EdgeThere c d) = codes "edge-there " ++ decimal c ++ codes " " ++ decimal d
+condition_text cond = join_with_byte 32 (condition_words cond)

@@ -4,6 +4,8 @@ use Rattle.pf_model.specs.declared.BuildErr.{BuildErr}
 use Rattle.pf_model.specs.declared.BuildErr.TheVariants as build
 use Rattle.tri_files.specs.declared.fault.TriErr.{TriErr}
 use Rattle.tri_files.specs.declared.fault.TriErr.TheVariants as tri
+use Rattle.pf_tables.specs.declared.fault.TableErr.{TableErr}
+use Rattle.pf_tables.specs.declared.fault.TableErr.TheVariants as table
 use Rattle.pf_journal.specs.declared.fault.JourErr.{JourErr}
 use Rattle.pf_journal.specs.declared.fault.JourErr.TheVariants as jour
 use Rattle.pf_cmd.specs.declared.place.Place.{Place}
@@ -36,6 +38,16 @@ build_fault_text name (build.BadNode tri node) = name ++ codes " triangle " ++ d
 build_fault_text name (build.Flat tri) = name ++ codes " triangle " ++ decimal tri ++ codes ": flat\n"
 build_fault_text name (build.EdgeTwice a b) = name ++ codes ": edge " ++ decimal a ++ codes " " ++ decimal b ++ codes " twice\n"
 build_fault_text name build.Memory = memory_text
+
+-- what is said of a partition or a size table
+abbrev pub table_fault_text : List ℕ → TableErr → List ℕ
+table_fault_text name (table.Short line) = name ++ codes " line " ++ decimal line ++ codes ": too few words\n"
+table_fault_text name (table.Word line column) = name ++ codes " line " ++ decimal line ++ codes " column " ++ decimal column ++ codes ": word refused\n"
+table_fault_text name (table.Chunk line found) = name ++ codes " line " ++ decimal line ++ codes ": chunk " ++ decimal found ++ codes " above 63\n"
+table_fault_text name (table.Band line) = name ++ codes " line " ++ decimal line ++ codes ": band refused\n"
+table_fault_text name table.NoDefault = name ++ codes ": no default line\n"
+table_fault_text name (table.Extra line) = name ++ codes " line " ++ decimal line ++ codes ": line after the end\n"
+table_fault_text name table.Memory = memory_text
 
 -- what is said of a journal
 abbrev pub jour_fault_text : List ℕ → JourErr → List ℕ

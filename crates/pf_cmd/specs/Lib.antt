@@ -1,12 +1,13 @@
 pub mod Words
-pub mod Shown
 pub mod Place
 pub mod Conditions
 pub mod Faults
 pub mod Stop
 pub mod Input
+pub mod Shown
 pub mod Causes
 pub mod Replay
 pub mod Output
+pub mod CutOff
 pub mod Ends
 pub mod Runs

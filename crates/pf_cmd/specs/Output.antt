@@ -2,16 +2,19 @@
 use Rattle.std.specs.Prelude.{◌≡◌, ℕ, List, [], ◌∷◌, false, map, Option, Some, if◌then◌else◌}
 use Rattle.std.specs.Str.{bytes_eq}
 use Rattle.std.specs.String.{string_bytes}
-use Rattle.pf_model.specs.Texts.{mesh_node_text, mesh_ele_text, replay_report}
+use Rattle.pf_model.specs.Texts.{mesh_node_text, mesh_ele_text, replay_report, check_report}
+use Rattle.pf_tables.specs.Part.{part_text_of}
 use Rattle.pf_cmd.specs.declared.place.Place.{Place}
-use Rattle.pf_cmd.specs.declared.place.Place.TheVariants.{OutNode, OutEle}
+use Rattle.pf_cmd.specs.declared.place.Place.TheVariants.{OutNode, OutEle, OutPart}
 use Rattle.pf_cmd.specs.declared.output.OutFile.{OutFile}
 use Rattle.pf_cmd.specs.declared.output.Output.{Output}
 use Rattle.pf_cmd.specs.Place.{Stems, name_of}
+use Rattle.pf_cmd.specs.Input.{Parted}
 use Rattle.pf_cmd.specs.Replay.{Replayed}
 
--- a text, and the name of the file that it is for
+-- a text, and the file that it is for
 pub record NamedText : Type 0 where
+  pub place : Place
   pub name : List ℕ
   pub text : List ℕ
 
@@ -22,7 +25,7 @@ pub record Given : Type 0 where
 
 -- a file of the code, as a text with its name
 abbrev pub named_text : OutFile → NamedText
-named_text file = record { name = string_bytes file.name; text = file.text.items }
+named_text file = record { place = file.place; name = string_bytes file.name; text = file.text.items }
 
 -- what the code has made ready, as what it gives
 abbrev pub given_of : Output → Given
@@ -30,15 +33,23 @@ given_of output = record { writes = map named_text output.files.items; report = 
 
 -- the text of a mesh for a file of this place
 abbrev pub written_to : Stems → Place → List ℕ → NamedText
-written_to stems place text = record { name = name_of stems place; text = text }
+written_to stems place text = record { place = place; name = name_of stems place; text = text }
 
 -- what a replay gives
 abbrev pub replay_given : Stems → Replayed → Given
 replay_given stems replayed =
     record {
-      writes = written_to stems OutNode (mesh_node_text replayed.base replayed.mesh) ∷ written_to stems OutEle (mesh_ele_text replayed.base replayed.mesh) ∷ [];
+      writes =
+          written_to stems OutNode (mesh_node_text replayed.base replayed.mesh)
+          ∷ written_to stems OutEle (mesh_ele_text replayed.base replayed.mesh)
+          ∷ written_to stems OutPart (part_text_of replayed.mesh.tris)
+          ∷ [];
       report = replay_report replayed.operations replayed.mesh;
     }
+
+-- what a check gives
+abbrev pub check_given : Parted → Given
+check_given parted = record { writes = []; report = check_report parted.parts.chunks parted.listed.mesh }
 
 -- the files by their names, with one of them written
 abbrev pub with_file : NamedText → (List ℕ → Option (List ℕ)) → List ℕ → Option (List ℕ)

@@ -4,12 +4,12 @@ use Rattle.pf_model.specs.declared.Entry.{Entry}
 use Rattle.pf_model.specs.declared.Cond.{Cond}
 use Rattle.pf_model.specs.Mesh.{Undivided}
 use Rattle.pf_model.specs.Applied.{applied}
+use Rattle.pf_model.specs.Ends.{gone_end}
 use Rattle.pf_model.specs.Conditions.{first_failing}
-use Rattle.pf_mesh.specs.Mesh.{gone_end}
 use Rattle.pf_cmd.specs.declared.stop.Stop.{Stop}
 use Rattle.pf_cmd.specs.declared.stop.Stop.TheVariants.{Fails, Gone}
 use Rattle.pf_cmd.specs.Place.{Stems}
-use Rattle.pf_cmd.specs.Input.{◌>>=◌, mesh_in, entries_in}
+use Rattle.pf_cmd.specs.Input.{◌>>=◌, numbered_in, entries_in}
 
 -- the mesh after an entry, both of whose ends are live
 abbrev pub judged : Undivided → Entry → Option Cond → Result Undivided Stop
@@ -37,7 +37,7 @@ pub record Replayed : Type 0 where
 -- the mesh of the files after the journal
 unfoldable pub replay_in : (List ℕ → Option (List ℕ)) → Stems → ℕ → Result Replayed Stop
 replay_in look stems scale = do
-  read ← mesh_in look stems scale
+  read ← numbered_in look stems scale
   entries ← entries_in look stems read.mesh.first_new
   mesh ← mesh_after read.mesh entries
   Ok record { base = read.base; mesh = mesh; operations = length entries }

@@ -2,10 +2,10 @@
 use Rattle.std.specs.Prelude.{ℕ, List, ◌++◌, codes, decimal}
 use Rattle.pf_cmd.specs.declared.place.Place.TheVariants.{Ele, Journal}
 use Rattle.pf_cmd.specs.declared.stop.Stop.{Stop}
-use Rattle.pf_cmd.specs.declared.stop.Stop.TheVariants.{Unread, Unwritten, Memory, Missing, TooLong, TriFault, BuildFault, JourFault, Limit, Fails, Gone}
+use Rattle.pf_cmd.specs.declared.stop.Stop.TheVariants.{Unread, Unwritten, Memory, Missing, TooLong, TriFault, BuildFault, TableFault, JourFault, Limit, Fails, Gone}
 use Rattle.pf_cmd.specs.Place.{Stems, name_of}
 use Rattle.pf_cmd.specs.Conditions.{condition_text}
-use Rattle.pf_cmd.specs.Faults.{memory_text, tri_fault_text, build_fault_text, jour_fault_text}
+use Rattle.pf_cmd.specs.Faults.{memory_text, tri_fault_text, build_fault_text, table_fault_text, jour_fault_text}
 
 -- the status
 abbrev pub status_of : Stop → ℕ
@@ -16,6 +16,7 @@ status_of (Missing place) = 7
 status_of (TooLong place) = 1
 status_of (TriFault place fault) = 1
 status_of (BuildFault fault) = 1
+status_of (TableFault place fault) = 1
 status_of (JourFault fault) = 1
 status_of (Limit count) = 1
 status_of (Fails ticket cond) = 6
@@ -30,6 +31,7 @@ line_of stems (Missing place) = name_of stems place ++ codes ": missing\n"
 line_of stems (TooLong place) = name_of stems place ++ codes ": longer than 268435456 bytes\n"
 line_of stems (TriFault place fault) = tri_fault_text (name_of stems place) place fault
 line_of stems (BuildFault fault) = build_fault_text (name_of stems Ele) fault
+line_of stems (TableFault place fault) = table_fault_text (name_of stems place) fault
 line_of stems (JourFault fault) = jour_fault_text (name_of stems Journal) fault
 line_of stems (Limit count) = codes "limit: nodes plus operations " ++ decimal count ++ codes " above 1048576\n"
 line_of stems (Fails ticket cond) = codes "operation " ++ decimal ticket ++ codes " refused: " ++ condition_text cond ++ codes "\n"

@@ -13,6 +13,8 @@ texts_of words = map (λ word. word.now) words
 pub data Command : Type 0 where
   -- replay the journal of the second stem on the mesh of the first, its coordinates multiplied by the scale
   replay : (base out : List ℕ) (scale : ℕ) → Command
+  -- check the mesh of the stem, its coordinates multiplied by the scale
+  check : (base : List ℕ) (scale : ℕ) → Command
 
 -- the word begins with a dash
 abbrev pub has_dash : List ℕ → Bool
@@ -36,8 +38,15 @@ replay_of [] = None
 replay_of (base ∷ []) = None
 replay_of (base ∷ out ∷ options) = if not (has_dash base) && not (has_dash out) then option_map (replay base out) (scale_of options) else None
 
+-- `BASE`, and the options
+abbrev pub check_of : List (List ℕ) → Option Command
+check_of [] = None
+check_of (base ∷ options) = if not (has_dash base) then option_map (check base) (scale_of options) else None
+
 -- the command; none where the words are in no command's form
 abbrev pub command_of : List (List ℕ) → Option Command
 command_of [] = None
 command_of (name ∷ words) =
-    if bytes_eq name (codes "replay") then replay_of words else None
+    if bytes_eq name (codes "replay") then replay_of words
+    else if bytes_eq name (codes "check") then check_of words
+    else None

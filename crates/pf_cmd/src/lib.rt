@@ -4,6 +4,7 @@
 //! begins, and stands in `specs/`; texts are made ready before the first write.
 #![tactic(auto)]
 
+mod check;
 mod input;
 mod output;
 mod perform;

@@ -1,13 +1,18 @@
 // What a command writes and says, made ready before the first write.
-ghost use Rattle.std.specs.Prelude.{◌≡◌, ◌≤◌, List, ℕ, IfOk, IfErr, OnOk, OnErr, is_some, map};
+ghost use Rattle.std.specs.Prelude.{◌≡◌, ◌≤◌, List, [], ◌∷◌, ◌++◌, ℕ, IfOk, IfErr, OnOk, OnErr, is_some, map};
+ghost use Rattle.pf_model.specs.Texts.{lines_text, mesh_lines};
 ghost use Rattle.pf_shelf.specs.Count.{Rose};
 ghost use Rattle.pf_shelf.specs.Files.{Tells, held};
 ghost use Rattle.pf_cmd.specs.Output.{named_text, written_to, written, IsNoneOf};
 ghost use Rattle.pf_cmd.specs.Shown.{stems_of};
+ghost use Rattle.pf_cmd.specs.CutOff.{IsCut};
 ghost use Rattle.pf_cmd.specs.Ends.{IsUnwritten};
 
 use crate::place::{Place, Stems};
 use crate::stop::Stop;
+use itoa::{Buffer, Integer};
+use pf_forms::area2;
+use pf_mesh::Mesh;
 use pf_shelf::{Shelf, WriteErr, write_all};
 use std::alloc::{AllocError, Global};
 
@@ -32,6 +37,30 @@ pub(crate) fn out_file(
     Ok(OutFile { place, name, text })
 }
 
+/// Puts a line of a report: a word, a number and the end of the line.
+pub(crate) fn put_line<I: Integer>(
+    text: &mut Vec<u8>,
+    word: &[u8],
+    number: I,
+) -> Result<(), AllocError>
+    ensures { OnOk result (text.new.items ≡ text.old.items ++ word.now ++ I.text number ++ 10 ∷ []) }
+{
+    text.extend_from_slice(word)?;
+    text.extend_from_slice(Buffer::new().format(number).as_bytes())?;
+    text.push(b'\n')?;
+    Ok(())
+}
+
+/// Puts what every report says of a mesh: how many nodes and triangles there are, and twice the area.
+pub(crate) fn put_mesh(text: &mut Vec<u8>, mesh: &Mesh) -> Result<(), AllocError>
+    ensures { OnOk result (text.new.items ≡ text.old.items ++ lines_text (mesh_lines mesh.now)) }
+{
+    put_line(text, b"nodes ", mesh.sites().len())?;
+    put_line(text, b"triangles ", mesh.tris().len())?;
+    put_line(text, b"area2 ", area2(mesh))?;
+    Ok(())
+}
+
 /// The files that are to be written, in order, and what is to be said then.
 #[derive(Drop)]
 pub(crate) struct Output {
@@ -44,6 +73,7 @@ pub(crate) fn write_files<S: Shelf>(shelf: &mut S, files: &[OutFile]) -> Result<
     ensures written { Tells (S.told shelf.old) → OnOk result ((name : List ℕ) →
         held (S.told shelf.new) name ≡ written (map named_text files.now) (held (S.told shelf.old)) name) }
     ensures stop { IfErr result IsUnwritten }
+    ensures cut { Tells (S.told shelf.old) → IfErr result (IsCut (map named_text files.now) (held (S.told shelf.old)) (held (S.told shelf.new))) }
     ensures fault { OnErr result (Rose (S.write_faults shelf.old) (S.write_faults shelf.new)) }
 
     // Whatever it answers.

@@ -12,12 +12,18 @@ pub(crate) enum Place {
     Node,
     /// The triangles that are read.
     Ele,
+    /// The chunks of the triangles that are read.
+    Part,
+    /// The wanted lengths that are read.
+    Size,
     /// The journal that is read.
     Journal,
     /// The nodes that are written.
     OutNode,
     /// The triangles that are written.
     OutEle,
+    /// The chunks of the triangles that are written.
+    OutPart,
 }
 
 /// The two stems that the words name.
@@ -36,8 +42,8 @@ impl Stems<'_> {
         ensures { result.now ≡ stem_of (stems_of self.now) place }
     {
         match place {
-            Place::Node | Place::Ele => self.base,
-            Place::Journal | Place::OutNode | Place::OutEle => self.out,
+            Place::Node | Place::Ele | Place::Part | Place::Size => self.base,
+            Place::Journal | Place::OutNode | Place::OutEle | Place::OutPart => self.out,
         }
     }
 
@@ -58,6 +64,8 @@ pub(crate) fn ending(place: Place) -> &'static str
     match place {
         Place::Node | Place::OutNode => ".node",
         Place::Ele | Place::OutEle => ".ele",
+        Place::Part | Place::OutPart => ".part",
+        Place::Size => ".size",
         Place::Journal => ".journal",
     }
 }

@@ -4,8 +4,8 @@ ghost use Rattle.pf_shelf.specs.Count.{Rose};
 ghost use Rattle.pf_shelf.specs.Files.{Tells, held, IsAsBefore};
 ghost use Rattle.pf_cmd.specs.Causes.{seen};
 ghost use Rattle.pf_cmd.specs.Words.{Command as Asked, texts_of, command_of};
-ghost use Rattle.pf_cmd.specs.Ends.{IsUnnamed};
-ghost use Rattle.pf_cmd.specs.Runs.{Runs, IsPerformed, IsRefusal, IsLine};
+ghost use Rattle.pf_cmd.specs.Ends.{given_by, IsUnnamed};
+ghost use Rattle.pf_cmd.specs.Runs.{Runs, IsPerformed, IsRefusal, IsUnfinished, IsFaultless, status_given, IsLine};
 
 use crate::perform::perform;
 use crate::say::{say, say_stop};
@@ -17,7 +17,7 @@ const WORDS_REFUSED: &[u8] = b"parfum: words refused\n";
 
 /// Does all that the program does, and gives the exit status.
 ///
-/// `words` are those behind the program's name: `replay BASE OUT [--scale S]`. Files are read and written through `shelf`,
+/// `words` are those behind the program's name: `check BASE [--scale S]` or `replay BASE OUT [--scale S]`. Files are read and written through `shelf`,
 /// and one text is said to `out`. All texts are made ready before the first write.
 ///
 /// | Status | It comes |
@@ -39,6 +39,11 @@ pub fn run<S: Shelf, K: Sink>(alloc: Global, words: &[&str], shelf: &mut S, out:
     ensures missing { result ≡ 7 → Rose (S.misses shelf.old) (S.misses shelf.new) }
     ensures unwritten { result ≡ 4 → Rose (S.write_faults shelf.old) (S.write_faults shelf.new) ⊎ Rose (K.faults out.old) (K.faults out.new) }
     ensures refused { Tells (S.told shelf.old) → (result ≡ 1) ⊎ ((result ≡ 6) ⊎ (result ≡ 7)) → IsRefusal (texts_of words.now) (seen S.told S.read_faults S.write_faults S.misses shelf.old) record { faults = K.faults out.old; told = K.told out.old } record { faults = K.faults out.new; told = K.told out.new } result }
+    ensures unfinished { Tells (S.told shelf.old) → result ≡ 4 → IsUnfinished (texts_of words.now) (seen S.told S.read_faults S.write_faults S.misses shelf.old) (seen S.told S.read_faults S.write_faults S.misses shelf.new) record { faults = K.faults out.old; told = K.told out.old } record { faults = K.faults out.new; told = K.told out.new } }
+
+    // Where no device counts a fault, the files decide the status, want of memory aside.
+    ensures complete { (command : Asked) → Tells (S.told shelf.old) → command_of (texts_of words.now) ≡ Some command → IsFaultless (seen S.told S.read_faults S.write_faults S.misses shelf.old) (seen S.told S.read_faults S.write_faults S.misses shelf.new) record { faults = K.faults out.old; told = K.told out.old } record { faults = K.faults out.new; told = K.told out.new } →
+        (result ≡ status_given (given_by (held (S.told shelf.old)) command)) ⊎ (result ≡ 5) }
 
     // A run that isn't done leaves every file as it was, unless a write failed.
     ensures as_before { result ≢ 0 → result ≢ 4 → IsAsBefore (S.told shelf.old) (S.told shelf.new) }

@@ -1,5 +1,5 @@
 // The replay of a journal on a mesh.
-ghost use Rattle.std.specs.Prelude.{◌≡◌, ◌≢◌, ℕ, ◌+◌, ◌<◌, ◌≤◌, [], ◌∷◌, ◌++◌, Ok, Err, length, IfOk, IfErr, OnOk};
+ghost use Rattle.std.specs.Prelude.{◌≡◌, ◌≢◌, ℕ, ◌+◌, ◌<◌, ◌≤◌, [], ◌∷◌, Ok, Err, length, IfOk, IfErr, OnOk};
 ghost use Rattle.pf_shelf.specs.Files.{Tells, held};
 ghost use Rattle.pf_model.specs.Conforming.{IsLive};
 ghost use Rattle.pf_journal.specs.Entries.{HasTickets};
@@ -9,14 +9,14 @@ ghost use Rattle.pf_cmd.specs.Shown.{stems_of};
 ghost use Rattle.pf_cmd.specs.Replay.{mesh_after, replay_in};
 ghost use Rattle.pf_cmd.specs.Output.{given_of, replay_given};
 
-use crate::input::{Numbered, read_entries, read_mesh};
-use crate::output::{Output, out_file};
+use crate::input::{Numbered, read_entries, read_numbered};
+use crate::output::{Output, out_file, put_line, put_mesh};
 use crate::place::{Place, Stems};
 use crate::stop::Stop;
-use itoa::{Buffer, Integer};
-use pf_forms::area2;
-use pf_mesh::{ApplyErr, Entry, Mesh};
+use pf_journal::ReplayErr;
+use pf_mesh::{Entry, Mesh};
 use pf_shelf::Shelf;
+use pf_tables::part_text;
 use std::alloc::{AllocError, Global};
 use tri_files::{ele_text, node_text};
 
@@ -44,7 +44,7 @@ pub(crate) fn replay<S: Shelf>(
         (replay_in (held (S.told shelf.old)) (stems_of stems.entry) scale)) }
     ensures only_read { IsOnlyRead (seen S.told S.read_faults S.write_faults S.misses shelf.old) (seen S.told S.read_faults S.write_faults S.misses shelf.new) }
 {
-    let Numbered { base, mut mesh } = read_mesh(alloc, shelf, stems, scale)?;
+    let Numbered { base, mut mesh } = read_numbered(alloc, shelf, stems, scale)?;
     let entries = read_entries(alloc, shelf, stems, mesh.first_new())?;
     apply_all(&mut mesh, &entries)?;
     let operations = entries.len() as u32;
@@ -67,10 +67,12 @@ pub(crate) fn replay_output(
 {
     let node_text = node_text(alloc, &after.mesh, after.base)?;
     let ele_text = ele_text(alloc, &after.mesh, after.base)?;
+    let part_text = part_text(alloc, &after.mesh)?;
     let report = report_text(alloc, after)?;
     let mut files = Vec::new(alloc);
     files.push(out_file(alloc, stems, Place::OutNode, node_text)?)?;
     files.push(out_file(alloc, stems, Place::OutEle, ele_text)?)?;
+    files.push(out_file(alloc, stems, Place::OutPart, part_text)?)?;
     Ok(Output { files, report })
 }
 
@@ -83,25 +85,12 @@ pub(crate) fn apply_all(mesh: &mut Mesh, entries: &[Entry]) -> Result<(), Stop>
     ensures stop { IfErr result (λ stop. stop ≢ Stop.Memory → mesh_after mesh.old entries.now ≡ Err stop) }
     ensures inner { IfErr result IsInner }
 {
-    for entry in entries {
-        match mesh.apply(entry) {
-            Ok(()) => {}
-            Err(ApplyErr::Refused { cond }) => {
-                return Err(Stop::Fails {
-                    ticket: entry.ticket,
-                    cond,
-                });
-            }
-            Err(ApplyErr::Gone { node }) => {
-                return Err(Stop::Gone {
-                    ticket: entry.ticket,
-                    node,
-                });
-            }
-            Err(ApplyErr::Memory) => return Err(Stop::Memory),
-        }
+    match pf_journal::replay(mesh, entries) {
+        Ok(()) => Ok(()),
+        Err(ReplayErr::At { ticket, cond }) => Err(Stop::Fails { ticket, cond }),
+        Err(ReplayErr::Gone { ticket, node }) => Err(Stop::Gone { ticket, node }),
+        Err(ReplayErr::Memory) => Err(Stop::Memory),
     }
-    Ok(())
 }
 
 // The report: how many operations, nodes and triangles there are, and twice the area.
@@ -110,18 +99,6 @@ fn report_text(alloc: Global, after: &Replayed) -> Result<Vec<u8>, AllocError>
 {
     let mut text = Vec::new(alloc);
     put_line(&mut text, b"operations ", after.operations)?;
-    put_line(&mut text, b"nodes ", after.mesh.sites().len())?;
-    put_line(&mut text, b"triangles ", after.mesh.tris().len())?;
-    put_line(&mut text, b"area2 ", area2(&after.mesh))?;
+    put_mesh(&mut text, &after.mesh)?;
     Ok(text)
-}
-
-// A word, a number and the end of the line.
-fn put_line<I: Integer>(text: &mut Vec<u8>, word: &[u8], number: I) -> Result<(), AllocError>
-    ensures { OnOk result (text.new.items ≡ text.old.items ++ word.now ++ I.text number ++ 10 ∷ []) }
-{
-    text.extend_from_slice(word)?;
-    text.extend_from_slice(Buffer::new().format(number).as_bytes())?;
-    text.push(b'\n')?;
-    Ok(())
 }

@@ -1,7 +1,8 @@
 // Why a run ends before its end, and the line that says so.
-ghost use Rattle.std.specs.Prelude.{◌≡◌, ◌++◌, IfOk, OnOk, codes, decimal};
+ghost use Rattle.std.specs.Prelude.{◌≡◌, [], ◌∷◌, ◌++◌, IfOk, OnOk, codes, decimal};
+ghost use Rattle.std.specs.List.{join_with_byte};
 ghost use Rattle.pf_cmd.specs.Place.{name_of};
-ghost use Rattle.pf_cmd.specs.Faults.{most_in, tri_fault_text, build_fault_text, jour_fault_text};
+ghost use Rattle.pf_cmd.specs.Faults.{most_in, tri_fault_text, build_fault_text, table_fault_text, jour_fault_text};
 ghost use Rattle.pf_cmd.specs.Conditions.{condition_text};
 ghost use Rattle.pf_cmd.specs.Shown.{stems_of};
 ghost use Rattle.pf_cmd.specs.declared.stop.Stop.TheVariants.{Memory};
@@ -11,6 +12,7 @@ use itoa::Buffer;
 use pf_geom::NoMemory;
 use pf_journal::JourErr;
 use pf_mesh::{BuildErr, Cond};
+use pf_tables::TableErr;
 use std::alloc::{AllocError, AllocFailed, Global};
 use tri_files::TriErr;
 
@@ -31,6 +33,8 @@ pub(crate) enum Stop {
     TriFault { place: Place, fault: TriErr },
     /// The nodes and triangles make no mesh.
     BuildFault { fault: BuildErr },
+    /// The partition or the size table has this fault first.
+    TableFault { place: Place, fault: TableErr },
     /// The journal has this fault first.
     JourFault { fault: JourErr },
     /// There are so many nodes and operations together, which is too many.
@@ -81,6 +85,7 @@ impl Stop {
             Stop::TooLong { .. }
             | Stop::TriFault { .. }
             | Stop::BuildFault { .. }
+            | Stop::TableFault { .. }
             | Stop::JourFault { .. }
             | Stop::Limit { .. } => 1,
             Stop::Fails { .. } | Stop::Gone { .. } => 6,
@@ -114,6 +119,7 @@ impl Stop {
             ),
             Stop::TriFault { place, fault } => tri_fault_line(alloc, stems, place, fault),
             Stop::BuildFault { fault } => build_fault_line(alloc, stems, fault),
+            Stop::TableFault { place, fault } => table_fault_line(alloc, stems, place, fault),
             Stop::JourFault { fault } => jour_fault_line(alloc, stems, fault),
             Stop::Limit { count } => limit_line(alloc, count),
             Stop::Fails { ticket, cond } => fails_line(alloc, ticket, cond),
@@ -237,6 +243,47 @@ fn build_fault_line(alloc: Global, stems: Stems<'_>, fault: BuildErr) -> Result<
     }
 }
 
+fn table_fault_line(
+    alloc: Global,
+    stems: Stems<'_>,
+    place: Place,
+    fault: TableErr,
+) -> Result<Vec<u8>, AllocError>
+    ensures { IfOk result (λ text. text.items ≡ table_fault_text (name_of (stems_of stems.entry) place) fault) }
+{
+    match fault {
+        TableErr::Short { line } => {
+            let mut text = named(alloc, stems, place, b" line ")?;
+            put(&mut text, u64::from(line), b": too few words\n")?;
+            Ok(text)
+        }
+        TableErr::Word { line, column } => {
+            let mut text = named(alloc, stems, place, b" line ")?;
+            put(&mut text, u64::from(line), b" column ")?;
+            put(&mut text, u64::from(column), b": word refused\n")?;
+            Ok(text)
+        }
+        TableErr::Chunk { line, found } => {
+            let mut text = named(alloc, stems, place, b" line ")?;
+            put(&mut text, u64::from(line), b": chunk ")?;
+            put(&mut text, found, b" above 63\n")?;
+            Ok(text)
+        }
+        TableErr::Band { line } => {
+            let mut text = named(alloc, stems, place, b" line ")?;
+            put(&mut text, u64::from(line), b": band refused\n")?;
+            Ok(text)
+        }
+        TableErr::NoDefault => named(alloc, stems, place, b": no default line\n"),
+        TableErr::Extra { line } => {
+            let mut text = named(alloc, stems, place, b" line ")?;
+            put(&mut text, u64::from(line), b": line after the end\n")?;
+            Ok(text)
+        }
+        TableErr::Memory => Vec::from_slice(alloc, b"parfum: out of memory\n"),
+    }
+}
+
 fn jour_fault_line(alloc: Global, stems: Stems<'_>, fault: JourErr) -> Result<Vec<u8>, AllocError>
     ensures { IfOk result (λ text. text.items ≡ jour_fault_text (name_of (stems_of stems.entry) Place.Journal) fault) }
 {
@@ -300,15 +347,36 @@ fn put_condition(text: &mut Vec<u8>, cond: Cond) -> Result<(), AllocError>
         Cond::OnBoundary => text.extend_from_slice(b"on-boundary"),
         Cond::NotConvex => text.extend_from_slice(b"not-convex"),
         Cond::NotShorter => text.extend_from_slice(b"not-shorter"),
-        Cond::EdgeThere { c, d } => put_names(text, b"edge-there ", c, d),
+        Cond::EdgeThere { c, d } => put_names(text, b"edge-there", c, d),
+        Cond::TooShort { a, b } => put_names(text, b"too-short", a, b),
+        Cond::NotLongest { a, b } => put_names(text, b"not-longest", a, b),
+        Cond::OddMidpoint => text.extend_from_slice(b"odd-middle"),
+        Cond::TooWide => text.extend_from_slice(b"too-wide"),
+        Cond::Pinched => text.extend_from_slice(b"pinched"),
+        Cond::Corner => text.extend_from_slice(b"corner"),
+        Cond::OffBoundary => text.extend_from_slice(b"off-boundary"),
+        Cond::LinkNode { x } => put_name(text, b"link-node", x),
+        Cond::Inverts { x, y } => put_names(text, b"inverts", x, y),
+        Cond::TooLong { a, b } => put_names(text, b"too-long", a, b),
     }
 }
 
-// What is said, and two names behind it.
-fn put_names(text: &mut Vec<u8>, said: &[u8], a: u32, b: u32) -> Result<(), AllocError>
-    ensures { OnOk result (text.new.items ≡ text.old.items ++ (said.now ++ decimal a ++ codes " " ++ decimal b)) }
+// A word, and a name behind it.
+fn put_name(text: &mut Vec<u8>, word: &[u8], a: u32) -> Result<(), AllocError>
+    ensures { OnOk result (text.new.items ≡ text.old.items ++ join_with_byte 32 (word.now ∷ decimal a ∷ [])) }
 {
-    text.extend_from_slice(said)?;
+    text.extend_from_slice(word)?;
+    text.push(b' ')?;
+    text.extend_from_slice(Buffer::new().format(a).as_bytes())?;
+    Ok(())
+}
+
+// A word, and two names behind it.
+fn put_names(text: &mut Vec<u8>, word: &[u8], a: u32, b: u32) -> Result<(), AllocError>
+    ensures { OnOk result (text.new.items ≡ text.old.items ++ join_with_byte 32 (word.now ∷ decimal a ∷ decimal b ∷ [])) }
+{
+    text.extend_from_slice(word)?;
+    text.push(b' ')?;
     put(text, u64::from(a), b" ")?;
     text.extend_from_slice(Buffer::new().format(b).as_bytes())?;
     Ok(())

@@ -7,6 +7,10 @@ use std::alloc::{AllocError, Global};
 use std::process::Abort;
 use std::test::Fail;
 
+mod again;
+mod memory;
+mod rows;
+
 const KITE_NODE: &[u8] = b"4 2 0 0\n0 0 0\n1 8 0\n2 4 2\n3 4 -2\n";
 
 const KITE_ELE: &[u8] = b"2 3 0\n0 0 1 2\n1 1 0 3\n";
@@ -17,15 +21,28 @@ const FLIPPED_ELE: &[u8] = b"2 3 0\n0 0 3 2\n1 1 2 3\n";
 
 const REPORT: &[u8] = b"operations 1\nnodes 4\ntriangles 2\narea2 32\n";
 
+const ONE_CHUNK: &[u8] = b"0\n0\n";
+
+const ALL_LENGTHS: &[u8] = b"default 0 1000\n";
+
 // The kite on a shelf with room for what is written, of which these calls will fail.
 fn kite(alloc: Global, journal: &[u8], fail: Vec<Call>) -> Result<MemShelf, Fail> {
     let mut shelf = MemShelf::new(alloc, fail);
     shelf.put("k.node", KITE_NODE)?;
     shelf.put("k.ele", KITE_ELE)?;
+    shelf.put("k.part", ONE_CHUNK)?;
+    shelf.put("k.size", ALL_LENGTHS)?;
     shelf.put("o.journal", journal)?;
-    shelf.room("o.node", 1000)?;
-    shelf.room("o.ele", 1000)?;
+    make_room(&mut shelf, 1000)?;
     Ok(shelf)
+}
+
+// Room for files of so many bytes.
+fn make_room(shelf: &mut MemShelf, bytes: u64) -> Result<(), Fail> {
+    shelf.room("o.node", bytes)?;
+    shelf.room("o.ele", bytes)?;
+    shelf.room("o.part", bytes)?;
+    Ok(())
 }
 
 fn holds(shelf: &MemShelf, name: &str, bytes: &[u8]) -> bool {
@@ -61,6 +78,7 @@ fn assert_refused(
     assert_run(rt, &["replay", "k", "o"], &mut shelf, status, said)?;
     assert!(rt; shelf.get("o.node").is_none());
     assert!(rt; shelf.get("o.ele").is_none());
+    assert!(rt; shelf.get("o.part").is_none());
     assert!(rt; holds(&shelf, "k.node", KITE_NODE));
     assert!(rt; holds(&shelf, "k.ele", KITE_ELE));
     assert!(rt; holds(&shelf, "o.journal", journal));
@@ -86,6 +104,7 @@ fn the_kite_is_flipped(rt: HostRuntime) -> Result<(), Fail> {
     assert_run(&rt, &["replay", "k", "o"], &mut shelf, 0, REPORT)?;
     assert!(rt; holds(&shelf, "o.node", KITE_NODE));
     assert!(rt; holds(&shelf, "o.ele", FLIPPED_ELE));
+    assert!(rt; holds(&shelf, "o.part", ONE_CHUNK));
     assert!(rt; holds(&shelf, "k.ele", KITE_ELE));
     Ok(())
 }
@@ -114,6 +133,8 @@ fn words_in_no_form_are_refused(rt: HostRuntime) -> Result<(), Fail> {
     assert_run(&rt, &["replay", "k"], &mut shelf, 2, said)?;
     assert_run(&rt, &["replay", "k", "o", "p"], &mut shelf, 2, said)?;
     assert_run(&rt, &["reply", "k", "o"], &mut shelf, 2, said)?;
+    assert_run(&rt, &["check"], &mut shelf, 2, said)?;
+    assert_run(&rt, &["check", "k", "o"], &mut shelf, 2, said)?;
     assert_run(&rt, &["replay", "k", "-o"], &mut shelf, 2, said)?;
     assert_run(
         &rt,
@@ -171,6 +192,7 @@ fn a_call_that_fails_is_named(rt: HostRuntime) -> Result<(), Fail> {
     assert_fails(&rt, Kind::Read, 0, 3, b"k.node: read failed\n")?;
     assert_fails(&rt, Kind::Create, 0, 4, b"o.node: write failed\n")?;
     assert_fails(&rt, Kind::Create, 1, 4, b"o.ele: write failed\n")?;
+    assert_fails(&rt, Kind::Create, 2, 4, b"o.part: write failed\n")?;
     assert_fails(&rt, Kind::Append, 0, 4, b"o.node: write failed\n")
 }
 
@@ -271,6 +293,15 @@ fn short_ele(alloc: Global) -> Result<Vec<u8>, AllocError> {
     Ok(text)
 }
 
+// One chunk for all.
+fn grid_part(alloc: Global) -> Result<Vec<u8>, AllocError> {
+    let mut text = Vec::new(alloc);
+    for _ in 0..2 * SIDE * SIDE {
+        text.extend_from_slice(b"0\n")?;
+    }
+    Ok(text)
+}
+
 // All diagonals, row after row from the last column to the first.
 fn grid_journal(alloc: Global) -> Result<Vec<u8>, AllocError> {
     let mut text = Vec::new(alloc);
@@ -301,9 +332,12 @@ fn a_grid_of_diagonals_is_flipped(rt: HostRuntime) -> Result<(), Fail> {
     let nodes = grid_node(alloc)?;
     shelf.put("g.node", &nodes)?;
     shelf.put("g.ele", &long_ele(alloc)?)?;
+    shelf.put("g.part", &grid_part(alloc)?)?;
+    shelf.put("g.size", ALL_LENGTHS)?;
     shelf.put("g.journal", &grid_journal(alloc)?)?;
     shelf.room("g.node", 10_000)?;
     shelf.room("g.ele", 10_000)?;
+    shelf.room("g.part", 10_000)?;
     let said = b"operations 144\nnodes 169\ntriangles 288\narea2 28800\n";
     assert_run(&rt, &["replay", "g", "g"], &mut shelf, 0, said)?;
     assert!(rt; holds(&shelf, "g.node", &nodes));

@@ -1,7 +1,7 @@
 // What the words of the command line ask for.
 ghost use Rattle.std.specs.Prelude.{◌≡◌, ◌≤◌, IfSome};
 ghost use Rattle.std.specs.Option.{option_map};
-ghost use Rattle.pf_cmd.specs.Words.{texts_of, has_dash, scale_from, scale_of, replay_of, command_of};
+ghost use Rattle.pf_cmd.specs.Words.{texts_of, has_dash, scale_from, scale_of, replay_of, check_of, command_of};
 ghost use Rattle.pf_cmd.specs.Shown.{shown};
 ghost use Rattle.pf_cmd.specs.Ends.{IsScaled};
 
@@ -12,6 +12,7 @@ use pf_lex::{Token, natural};
 #[derive(Clone, Copy, Debug)]
 pub(crate) enum Command<'a> {
     Replay { stems: Stems<'a>, scale: u32 },
+    Check { base: &'a str, scale: u32 },
 }
 
 impl<'a> Command<'a> {
@@ -24,6 +25,7 @@ impl<'a> Command<'a> {
     {
         match self {
             Command::Replay { stems, .. } => stems,
+            Command::Check { base, .. } => Stems { base, out: base },
         }
     }
 
@@ -32,7 +34,7 @@ impl<'a> Command<'a> {
         ensures { result ≡ scale_in (shown self.entry) }
     {
         match self {
-            Command::Replay { scale, .. } => scale,
+            Command::Replay { scale, .. } | Command::Check { scale, .. } => scale,
         }
     }
 }
@@ -47,6 +49,8 @@ pub(crate) fn command_of<'a>(words: &'a [&'a str]) -> Option<Command<'a>>
     };
     if *name == "replay" {
         replay_of(others)
+    } else if *name == "check" {
+        check_of(others)
     } else {
         None
     }
@@ -67,6 +71,20 @@ fn replay_of<'a>(words: &'a [&'a str]) -> Option<Command<'a>>
         stems: Stems { base, out },
         scale,
     })
+}
+
+fn check_of<'a>(words: &'a [&'a str]) -> Option<Command<'a>>
+    ensures command { option_map shown result ≡ check_of (texts_of words.entry.now) }
+    ensures scaled { IfSome result (λ command. IsScaled (shown command)) }
+{
+    let [base, options @ ..] = words else {
+        return None;
+    };
+    if has_dash(base) {
+        return None;
+    }
+    let scale = scale_of(options)?;
+    Some(Command::Check { base, scale })
 }
 
 fn scale_of(options: &[&str]) -> Option<u32>

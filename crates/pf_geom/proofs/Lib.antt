@@ -1,3 +1,4 @@
 pub mod Polynomials
 pub mod Orientations
 pub mod Products
+pub mod Middles

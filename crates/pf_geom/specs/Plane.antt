@@ -1,5 +1,6 @@
 -- The plane: points with whole-number coordinates, by formula.
-use Rattle.std.specs.Prelude.{ℕ, ℤ, pos, neg_ℤ, ◌+ℤ◌, ◌-ℤ◌, ◌*ℤ◌, ◌≤ℤ◌}
+use Rattle.std.specs.Prelude.{ℕ, ℤ, pos, neg_ℤ, ◌+ℤ◌, ◌-ℤ◌, ◌*ℤ◌, ◌≤ℤ◌, ◌&&◌, cond, Option, Some, None, int_div, int_rem}
+use Rattle.std.specs.Ordering.{int_eq}
 use Rattle.pf_geom.specs.declared.Point.{Point}
 
 -- the number's magnitude is at most this
@@ -19,3 +20,10 @@ orient_of a b c = (b.x -ℤ a.x) *ℤ (c.y -ℤ a.y) -ℤ (b.y -ℤ a.y) *ℤ (c
 -- the squared distance from a to b
 abbrev pub len2_of : Point → Point → ℤ
 len2_of a b = (b.x -ℤ a.x) *ℤ (b.x -ℤ a.x) +ℤ (b.y -ℤ a.y) *ℤ (b.y -ℤ a.y)
+
+-- the point half way between a and b, where its coordinates are whole
+abbrev pub middle_of : Point → Point → Option Point
+middle_of a b =
+    cond (int_eq (int_rem (a.x +ℤ b.x) (pos 2)) (pos 0) && int_eq (int_rem (a.y +ℤ b.y) (pos 2)) (pos 0))
+    (Some record { x = int_div (a.x +ℤ b.x) (pos 2); y = int_div (a.y +ℤ b.y) (pos 2) })
+    None

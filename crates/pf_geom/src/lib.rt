@@ -4,13 +4,14 @@
 //! are doubled, so that every value is a whole number and none is rounded.
 #![tactic(auto)]
 
-ghost use Rattle.std.specs.Prelude.{◌≡◌, pos, ◌+ℤ◌, ◌-ℤ◌, ◌*ℤ◌, ◌≤ℤ◌, ◌<ℤ◌, ◌↔◌};
-ghost use Rattle.pf_geom.specs.Plane.{IsInRange, IsWithin, orient_of, len2_of};
+ghost use Rattle.std.specs.Prelude.{◌≡◌, pos, ◌+ℤ◌, ◌-ℤ◌, ◌*ℤ◌, ◌≤ℤ◌, ◌<ℤ◌, ◌↔◌, Some, None, IfSome, int_div, int_rem, if◌then◌else◌};
+ghost use Rattle.std.specs.Ordering.{int_eq};
+ghost use Rattle.pf_geom.specs.Plane.{IsInRange, IsWithin, orient_of, len2_of, middle_of};
 ghost use Rattle.pf_geom.specs.Laws.{FlipCutsAgree};
 
 /// A point of the plane. Every call of this crate asks that both coordinates have a magnitude of at
 /// most 268,435,456 (2 to the 28th).
-#[derive(Clone, Copy, Debug, PartialEq, Eq)]
+#[derive(Clone, Copy, Debug, PartialEq, Eq, Default)]
 pub struct Point {
     pub x: i32,
     pub y: i32,
@@ -80,6 +81,30 @@ pub fn len2(a: Point, b: Point) -> i64
     let across = difference(b.x, a.x);
     let up = difference(b.y, a.y);
     product(across, across) + product(up, up)
+}
+
+/// The point half way between `a` and `b`, or None where it isn't on whole coordinates: where the sum
+/// of the two x coordinates is odd, or that of the two y coordinates.
+pub fn middle(a: Point, b: Point) -> Option<Point>
+    requires a_in_range { IsInRange a }
+    requires b_in_range { IsInRange b }
+    ensures value { result ≡ middle_of a b }
+    ensures in_range { IfSome result IsInRange }
+{
+    let x = half(a.x, b.x)?;
+    let y = half(a.y, b.y)?;
+    Some(Point { x, y })
+}
+
+// Half the sum of two coordinates, or None where the sum is odd.
+fn half(p: i32, q: i32) -> Option<i32>
+    requires p_within { IsWithin 268435456 p }
+    requires q_within { IsWithin 268435456 q }
+    ensures value { let sum = p +ℤ q in result ≡ (if int_eq (int_rem sum (pos 2)) (pos 0) then Some (int_div sum (pos 2)) else None) }
+    ensures within { IfSome result (IsWithin 268435456) }
+{
+    let sum = p + q;
+    if sum % 2 == 0 { Some(sum / 2) } else { None }
 }
 
 // The difference of two coordinates.

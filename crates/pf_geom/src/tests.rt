@@ -47,6 +47,38 @@ fn squares_the_distance(rt: HostRuntime) {
 }
 
 #[test]
+fn finds_the_middle(rt: HostRuntime) {
+    assert_eq!(rt; middle(at(0, 0), at(4, 2)), Some(at(2, 1)));
+    assert_eq!(rt; middle(at(4, 2), at(0, 0)), Some(at(2, 1)));
+    assert_eq!(rt; middle(at(-3, 5), at(1, -9)), Some(at(-1, -2)));
+    assert_eq!(rt; middle(at(-5, -7), at(-5, -7)), Some(at(-5, -7)));
+    assert_eq!(rt; middle(at(7, -1), at(-7, 1)), Some(at(0, 0)));
+}
+
+#[test]
+fn finds_no_middle_where_a_sum_is_odd(rt: HostRuntime) {
+    assert_eq!(rt; middle(at(0, 0), at(3, 2)), None);
+    assert_eq!(rt; middle(at(0, 0), at(4, 1)), None);
+    assert_eq!(rt; middle(at(-1, -1), at(0, 0)), None);
+    assert_eq!(rt; middle(at(-2, 6), at(-6, -1)), None);
+    assert_eq!(rt; middle(at(-3, 0), at(2, 0)), None);
+}
+
+#[test]
+fn finds_the_middle_at_the_limits(rt: HostRuntime) {
+    let (low, high) = (at(-LIMIT, -LIMIT), at(LIMIT, LIMIT));
+    assert_eq!(rt; middle(low, high), Some(at(0, 0)));
+    assert_eq!(rt; middle(low, low), Some(low));
+    assert_eq!(rt; middle(high, high), Some(high));
+    assert_eq!(rt;
+        middle(high, at(LIMIT - 2, -LIMIT + 2)),
+        Some(at(LIMIT - 1, 1))
+    );
+    assert_eq!(rt; middle(high, at(LIMIT - 1, LIMIT)), None);
+    assert_eq!(rt; middle(low, at(-LIMIT, 1 - LIMIT)), None);
+}
+
+#[test]
 fn states_the_law_of_the_two_cuts(rt: HostRuntime) {
     flip_cuts_agree();
     let (p, q, c, d) = (at(0, 0), at(8, 0), at(4, 2), at(4, -2));

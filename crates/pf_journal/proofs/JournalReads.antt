@@ -14,11 +14,11 @@ use Rattle.pf_lex.specs.Written.{is_plain_row, written_lines}
 use Rattle.pf_lex.proofs.Laws.{text_lines-text}
 use Rattle.pf_lex.proofs.NumberLaws.{natural_of-decimal, is_plain_word-decimal}
 use Rattle.pf_model.specs.declared.Op.{Op}
-use Rattle.pf_model.specs.declared.Op.TheVariants.{Flip}
+use Rattle.pf_model.specs.declared.Op.TheVariants.{Flip, Bisect, Contract}
 use Rattle.pf_model.specs.declared.Entry.{Entry}
-use Rattle.pf_journal.specs.Entries.{normal_of}
+use Rattle.pf_model.specs.Ends.{normal_of, IsNormal}
 use Rattle.pf_model.specs.Texts.{entry_words, op_words, journal_text}
-use Rattle.pf_journal.specs.Entries.{HasTicketsFrom, IsNormal, IsNamedWithin}
+use Rattle.pf_journal.specs.Entries.{HasTicketsFrom, IsNamedWithin}
 use Rattle.pf_journal.specs.Journal.{number_at, due_at, kind_at, op_of, entry_on, end_on, entries_on, is_end}
 use Rattle.pf_journal.specs.declared.step.Kind.{Kind}
 use Rattle.pf_journal.specs.declared.step.Kind.TheVariants as kind
@@ -55,6 +55,14 @@ entry_on-written due line chunk (Flip a b) few small normal names =
     rw (lo, hi)
     (entry_on-words due line _ _ _ _ _ chunk kind.Flip a b (number_at-decimal _ _ _ _ few (lit< tt)) (number_at-decimal _ _ _ _ small (lit< tt)) refl (number_at-decimal _ _ _ _ names.0 (lit< tt)) (number_at-decimal _ _ _ _ names.1 (lit< tt))
     ∙ rw (lo, hi) refl)
+entry_on-written due line chunk (Bisect a b) few small normal names =
+    let lo : min a b ≡ a = cc in
+    let hi : max a b ≡ b = cc in
+    rw (lo, hi)
+    (entry_on-words due line _ _ _ _ _ chunk kind.Bisect a b (number_at-decimal _ _ _ _ few (lit< tt)) (number_at-decimal _ _ _ _ small (lit< tt)) refl (number_at-decimal _ _ _ _ names.0 (lit< tt)) (number_at-decimal _ _ _ _ names.1 (lit< tt))
+    ∙ rw (lo, hi) refl)
+entry_on-written due line chunk (Contract u v) few small normal names =
+    entry_on-words due line _ _ _ _ _ chunk kind.Contract u v (number_at-decimal _ _ _ _ few (lit< tt)) (number_at-decimal _ _ _ _ small (lit< tt)) refl (number_at-decimal _ _ _ _ names.0 (lit< tt)) (number_at-decimal _ _ _ _ names.1 (lit< tt))
 
 -- a written end line is read as its count
 end_on-written : (due line : ℕ) → due ≤ 4294967295 → end_on due line (placed 1 (codes "end" ∷ decimal due ∷ [])) ≡ Ok due
@@ -91,6 +99,8 @@ entries_on-written past number due total (entry ∷ entries) count few tickets w
 
 op_plain : (ticket chunk : ℕ) (op : Op) → ticket ≤ 4294967295 → chunk ≤ 65535 → IsNamedWithin 4294967295 op → is_plain_row (decimal ticket ∷ decimal chunk ∷ op_words op) ≡ true
 op_plain ticket chunk (Flip a b) t c names = rw (is_plain_word-decimal ticket (omega arith), is_plain_word-decimal chunk (omega arith), is_plain_word-decimal (min a b) (omega (arith, names.0)), is_plain_word-decimal (max a b) (omega (arith, names.0, names.1))) refl
+op_plain ticket chunk (Bisect a b) t c names = rw (is_plain_word-decimal ticket (omega arith), is_plain_word-decimal chunk (omega arith), is_plain_word-decimal (min a b) (omega (arith, names.0)), is_plain_word-decimal (max a b) (omega (arith, names.0, names.1))) refl
+op_plain ticket chunk (Contract u v) t c names = rw (is_plain_word-decimal ticket (omega arith), is_plain_word-decimal chunk (omega arith), is_plain_word-decimal u (omega (arith, names.0)), is_plain_word-decimal v (omega (arith, names.1))) refl
 
 plain : (due total : ℕ) (entries : List Entry) → total ≡ due + length entries → total ≤ 4294967295 → HasTicketsFrom due entries → AllByRecursion IsWritable entries → list_all is_plain_row (map entry_words entries ++ (codes "end" ∷ decimal total ∷ []) ∷ []) ≡ true
 plain due total [] count few tickets writable = rw (is_plain_word-decimal total (omega arith)) refl

@@ -1,4 +1,4 @@
-pub mod Filled
 pub mod JournalReads
 pub mod ReadLemmas
 pub mod WriteLemmas
+pub mod ReplayLemmas

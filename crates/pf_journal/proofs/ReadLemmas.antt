@@ -9,16 +9,20 @@ use Rattle.std.proofs.lemmas.List.Elements.{All-from_recursion}
 use Rattle.pf_lex.specs.Text.{TextLine, is_nonempty, is_newline, numbered, lines_of, without_empty_last, text_lines, text_lines_from, lines_past}
 use Rattle.pf_model.specs.declared.Entry.{Entry}
 use Rattle.pf_model.specs.declared.Op.{Op}
-use Rattle.pf_model.specs.declared.Op.TheVariants.{Flip}
-use Rattle.pf_journal.specs.Entries.{normal_of, HasTicketsFrom, HasTickets, IsNormal}
-use Rattle.pf_journal.specs.Journal.{◌>>=◌, at_text_end, is_end, end_on, entry_on, entries_on, is_head, journal_of}
+use Rattle.pf_model.specs.declared.Op.TheVariants.{Flip, Bisect, Contract}
+use Rattle.pf_model.specs.Ends.{normal_of, IsNormal}
+use Rattle.pf_journal.specs.Entries.{HasTicketsFrom, HasTickets}
+use Rattle.pf_lex.specs.Steps.{at_text_end}
+use Rattle.pf_journal.specs.Journal.{◌>>=◌, is_end, end_on, entry_on, entries_on, is_head, journal_of}
 use Rattle.pf_journal.specs.declared.fault.JourErr.{JourErr}
 use Rattle.pf_journal.specs.declared.fault.JourErr.TheVariants as fault
-use Rattle.pf_journal.proofs.Filled.{is_filled, filled-rest}
+use Rattle.pf_lex.proofs.Filled.{is_filled, filled-rest}
 
 -- a normal form is normal
 pub normal_of-normal : (op : Op) → IsNormal (normal_of op)
 normal_of-normal (Flip a b) = let lo : min (min a b) (max a b) ≡ min a b = omega arith in let hi : max (min a b) (max a b) ≡ max a b = omega arith in rw (lo, hi) refl
+normal_of-normal (Bisect a b) = let lo : min (min a b) (max a b) ≡ min a b = omega arith in let hi : max (min a b) (max a b) ≡ max a b = omega arith in rw (lo, hi) refl
+normal_of-normal (Contract u v) = refl
 
 -- the entries that were read, before those that are still to come
 abbrev pub after : List Entry → Result (List Entry) JourErr → Result (List Entry) JourErr
@@ -51,7 +55,7 @@ unfolding entries_on
 entry-line past count line left more = rw more refl
 
 -- the end line
-pub end-line : (past count : ℕ) (line : TextLine) (left : List TextLine) → is_end line.words ≡ true → entries_on past count (line ∷ left) ≡ (end_on count line.line line.words >>= (λ n. at_text_end left []))
+pub end-line : (past count : ℕ) (line : TextLine) (left : List TextLine) → is_end line.words ≡ true → entries_on past count (line ∷ left) ≡ (end_on count line.line line.words >>= (λ n. at_text_end fault.Extra left []))
 unfolding entries_on
 end-line past count line left is = rw is refl
 

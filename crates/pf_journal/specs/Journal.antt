@@ -3,10 +3,11 @@ use Rattle.std.specs.Prelude.{ℕ, ◌+◌, Bool, false, ◌&&◌, ◌==◌, nat
 use Rattle.std.specs.Str.{bytes_eq}
 use Rattle.pf_lex.specs.Text.{Word, TextLine, text_lines, lines_past}
 use Rattle.pf_lex.specs.Number.{is_natural, natural_value}
+use Rattle.pf_lex.specs.Steps.{at_line_end, at_text_end}
 use Rattle.pf_model.specs.declared.Op.{Op}
 use Rattle.pf_model.specs.declared.Op.TheVariants as op
 use Rattle.pf_model.specs.declared.Entry.{Entry}
-use Rattle.pf_journal.specs.Entries.{normal_of}
+use Rattle.pf_model.specs.Ends.{normal_of}
 use Rattle.pf_journal.specs.declared.step.Kind.{Kind}
 use Rattle.pf_journal.specs.declared.step.Kind.TheVariants as kind
 use Rattle.pf_journal.specs.declared.fault.JourErr.{JourErr}
@@ -21,16 +22,6 @@ Err e >>= next = Err e
 -- the word is refused
 abbrev pub refused : {A : Type 0} → ℕ → Word → Result A JourErr
 refused line word = Err (fault.Word line word.column)
-
--- the value of a line that has no further word
-abbrev pub at_line_end : {A : Type 0} → ℕ → List Word → A → Result A JourErr
-at_line_end line [] value = Ok value
-at_line_end line (word ∷ others) value = refused line word
-
--- the value of a text that has no further line
-abbrev pub at_text_end : {A : Type 0} → List TextLine → A → Result A JourErr
-at_text_end [] value = Ok value
-at_text_end (line ∷ lines) value = Err (fault.Extra line.line)
 
 -- a natural word's number, which is at most this; any other word is refused
 abbrev pub number_at : ℕ → ℕ → Word → Result ℕ JourErr
@@ -52,14 +43,18 @@ due_at line due number = if number == due then Ok number else Err (fault.Ticket 
 abbrev pub kind_at : ℕ → Word → Result Kind JourErr
 kind_at line word =
     if bytes_eq word.text (codes "flip") then Ok kind.Flip
+    else if bytes_eq word.text (codes "bisect") then Ok kind.Bisect
+    else if bytes_eq word.text (codes "contract") then Ok kind.Contract
     else refused line word
 
 -- the operation of a kind with two names
 abbrev pub op_of : Kind → ℕ → ℕ → Op
 op_of kind.Flip a b = op.Flip a b
+op_of kind.Bisect a b = op.Bisect a b
+op_of kind.Contract a b = op.Contract a b
 
--- the entry that a line says, below so many others: its operation in normal form, so that its names are turned
--- round where the lower one stands second
+-- the entry that a line says, below so many others: its operation in normal form, so that the names of
+-- a flip or a bisection are turned round where the lower one stands second
 unfoldable pub entry_on : ℕ → ℕ → List Word → Result Entry JourErr
 entry_on due line (ticket ∷ chunk ∷ kind ∷ a ∷ b ∷ others) = do
   number ← number_at number_limit line ticket
@@ -68,7 +63,7 @@ entry_on due line (ticket ∷ chunk ∷ kind ∷ a ∷ b ∷ others) = do
   kind ← kind_at line kind
   a ← number_at number_limit line a
   b ← number_at number_limit line b
-  at_line_end line others record { ticket = ticket; chunk = chunk; op = normal_of (op_of kind a b) }
+  at_line_end (fault.Word line) others (Ok record { ticket = ticket; chunk = chunk; op = normal_of (op_of kind a b) })
 entry_on due line words = Err (fault.Short line)
 
 -- the count that the end line says, below so many entries
@@ -76,7 +71,7 @@ unfoldable pub end_on : ℕ → ℕ → List Word → Result ℕ JourErr
 end_on due line (name ∷ count ∷ others) = do
   number ← number_at number_limit line count
   count ← due_at line due number
-  at_line_end line others count
+  at_line_end (fault.Word line) others (Ok count)
 end_on due line words = Err (fault.Short line)
 
 -- the line is the end line
@@ -91,7 +86,7 @@ entries_on past due (line ∷ lines) =
     if is_end line.words
     then (do
       count ← end_on due line.line line.words
-      at_text_end lines [])
+      at_text_end fault.Extra lines [])
     else (do
       entry ← entry_on due line.line line.words
       entries ← entries_on past (due + 1) lines

@@ -1,8 +1,9 @@
 -- Laws of the journal's format.
 use Rattle.std.specs.Prelude.{◌≡◌, ◌≤◌, List, length, All, Ok}
 use Rattle.pf_model.specs.declared.Entry.{Entry}
+use Rattle.pf_model.specs.Ends.{IsNormal}
 use Rattle.pf_model.specs.Texts.{journal_text}
-use Rattle.pf_journal.specs.Entries.{HasTickets, IsNormal, IsNamedWithin}
+use Rattle.pf_journal.specs.Entries.{HasTickets, IsNamedWithin}
 use Rattle.pf_journal.specs.Journal.{chunk_limit, number_limit, journal_of}
 
 -- the entry's operation is in normal form, and its numbers are in range

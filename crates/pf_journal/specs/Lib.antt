@@ -2,3 +2,4 @@ pub mod Entries
 pub mod Journal
 pub mod EntryWords
 pub mod Laws
+pub mod Replay

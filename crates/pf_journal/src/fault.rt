@@ -1,7 +1,8 @@
 //! Why a journal is refused.
 ghost use Rattle.std.specs.Prelude.{◌≡◌};
-ghost use Rattle.pf_journal.specs.declared.fault.JourErr.TheVariants.{Memory};
+ghost use Rattle.pf_journal.specs.declared.fault.JourErr.TheVariants.{Memory, Word};
 
+use pf_lex::WordFault;
 use std::alloc::AllocFailed;
 use thiserror::Error;
 
@@ -39,6 +40,14 @@ pub enum JourErr {
     /// Memory ran out. Nothing else makes a call answer it.
     #[error("out of memory")]
     Memory,
+}
+
+impl WordFault for JourErr {
+    ghost word_refused = { Word };
+
+    fn at(line: u32, column: u32) -> JourErr {
+        JourErr::Word { line, column }
+    }
 }
 
 impl<T: Drop> From<AllocFailed<T>> for JourErr {

@@ -2,19 +2,21 @@
 ghost use Rattle.std.specs.Prelude.{◌≡◌, ◌≢◌, ◌≤◌, ◌∷◌, ◌^◌, ◌<◌, length, All, Ok, Err, IsTrue, IfOk, IfErr};
 ghost use Rattle.pf_lex.specs.Text.{is_nonempty};
 ghost use Rattle.pf_lex.specs.Token.{word_of};
-ghost use Rattle.pf_journal.specs.Entries.{HasTickets, IsNormal};
+ghost use Rattle.pf_model.specs.Ends.{IsNormal};
+ghost use Rattle.pf_journal.specs.Entries.{HasTickets};
 ghost use Rattle.pf_journal.specs.Journal.{op_of, entry_on, end_on, is_head, journal_of};
 ghost use Rattle.pf_journal.specs.EntryWords.{entry_words};
 
 use crate::fault::JourErr;
-use crate::step::{Kind, due_number, end_line, is_word, kind_of, line_of, normal, number};
-use pf_lex::{Lines, Token, Words};
+use crate::step::{Kind, due_number, kind_of, number};
+use pf_lex::{Lines, Token, Words, end_line, is_word};
 use pf_model::{Entry, Op};
 use std::alloc::Global;
 
 /// Reads a journal: the heading `parfum journal 1`, a line `ticket chunk op a b` for each entry, and
-/// the line `end count`. The tickets count up from 0. The names of a flip are turned round where
-/// the lower one stands second.
+/// the line `end count`. The tickets count up from 0. An `op` is `flip`, `bisect` or `contract`. The
+/// names of a flip or a bisection are turned round where the lower one stands second; those of a
+/// contraction stay as they are.
 pub fn read_journal(alloc: Global, bytes: &[u8]) -> Result<Vec<Entry>, JourErr>
     requires { length bytes.now ≤ 268435456 }
     ensures value { IfOk result (λ entries. journal_of bytes.now ≡ Ok entries.items) }
@@ -38,9 +40,7 @@ pub fn read_journal(alloc: Global, bytes: &[u8]) -> Result<Vec<Entry>, JourErr>
         if is_word(first, b"end") {
             end_count(first, words, due)?;
             if let Some(words) = lines.next_line() {
-                return Err(JourErr::Extra {
-                    line: line_of(words),
-                });
+                return Err(JourErr::Extra { line: words.line() });
             }
             return Ok(entries);
         }
@@ -74,7 +74,7 @@ fn end_count(name: Token<'_>, mut words: Words<'_>, due: u32) -> Result<u32, Jou
     let count = words.next().ok_or(JourErr::Short { line })?;
     let count = number(u32::MAX, line, count)?;
     let count = due_number(line, due, count)?;
-    end_line(line, words)?;
+    end_line::<JourErr>(line, words)?;
     Ok(count)
 }
 
@@ -124,11 +124,11 @@ fn entry_of(line: u32, entry: EntryWords<'_>, others: Words<'_>, due: u32) -> Re
     let kind = kind_of(line, entry.kind)?;
     let a = number(u32::MAX, line, entry.a)?;
     let b = number(u32::MAX, line, entry.b)?;
-    end_line(line, others)?;
+    end_line::<JourErr>(line, others)?;
     Ok(Entry {
         ticket,
         chunk: chunk as u16,
-        op: normal(op_of(kind, a, b)),
+        op: op_of(kind, a, b).normal(),
     })
 }
 
@@ -138,5 +138,7 @@ fn op_of(kind: Kind, a: u32, b: u32) -> Op
 {
     match kind {
         Kind::Flip => Op::Flip { a, b },
+        Kind::Bisect => Op::Bisect { a, b },
+        Kind::Contract => Op::Contract { u: a, v: b },
     }
 }

@@ -2,6 +2,8 @@
 ghost use Rattle.std.specs.Prelude.{◌≡◌, IfOk};
 ghost use Rattle.pf_journal.specs.Entries.{HasTickets};
 
+mod square;
+
 use crate::*;
 use pf_model::{Entry, Op};
 use std::alloc::Global;
@@ -47,6 +49,47 @@ fn journals_are_read(rt: HostRuntime) -> Result<(), Fail> {
         ),
     ];
     assert_eq!(rt; entries.as_slice(), wanted.as_slice());
+    Ok(())
+}
+
+// The only entry of a journal with this line.
+fn only_entry<R: Abort + AllocGlobal>(rt: &R, line: &str) -> Result<Entry, Fail> {
+    let mut text = Vec::new(rt.alloc());
+    text.extend_from_slice(b"parfum journal 1\n")?;
+    text.extend_from_slice(line.as_bytes())?;
+    text.extend_from_slice(b"\nend 1\n")?;
+    let entries = read(rt, rt.alloc(), text.as_slice())?;
+    assert_eq!(rt; entries.len(), 1);
+    Ok(entries[0])
+}
+
+#[test]
+fn each_operation_is_read_by_its_word(rt: HostRuntime) -> Result<(), Fail> {
+    for (line, op) in [
+        ("0 3 flip 7 9", Op::Flip { a: 7, b: 9 }),
+        ("0 3 flip 9 7", Op::Flip { a: 7, b: 9 }),
+        ("0 3 bisect 7 9", Op::Bisect { a: 7, b: 9 }),
+        ("0 3 bisect 9 7", Op::Bisect { a: 7, b: 9 }),
+        ("0 3 contract 7 9", Op::Contract { u: 7, v: 9 }),
+        ("0 3 contract 9 7", Op::Contract { u: 9, v: 7 }),
+        (
+            "0 3 bisect 4294967295 0",
+            Op::Bisect {
+                a: 0,
+                b: 4_294_967_295,
+            },
+        ),
+        (
+            "0 3 contract 4294967295 0",
+            Op::Contract {
+                u: 4_294_967_295,
+                v: 0,
+            },
+        ),
+    ] {
+        let found = only_entry(&rt, line)?;
+        assert_eq!(rt; found, entry(0, 3, op), "{line}");
+    }
     Ok(())
 }
 
@@ -101,6 +144,14 @@ fn the_first_fault_of_a_journal_is_named(rt: HostRuntime) -> Result<(), Fail> {
         ("0 0 swap 0 1\n", word(2, 5)),
         ("0 0 flips 0 1\n", word(2, 5)),
         ("0 0 Flip x 1\n", word(2, 5)),
+        ("0 0 bisec 0 1\n", word(2, 5)),
+        ("0 0 bisection 0 1\n", word(2, 5)),
+        ("0 0 contraction 0 1\n", word(2, 5)),
+        ("0 0 CONTRACT 0 1\n", word(2, 5)),
+        ("0 0 bisect 0\n", JourErr::Short { line: 2 }),
+        ("0 0 contract x 1\n", word(2, 14)),
+        ("0 0 contract 1 0 0\n", word(2, 18)),
+        ("0 0 contract 1 0\n0 0 bisect 0 1\n", ticket(3, 1, 0)),
         ("0 0 flip +0 1\n", word(2, 10)),
         ("0 0 flip 0 4294967296\n", word(2, 12)),
         ("0 0 flip 0 1 2\n", word(2, 14)),
@@ -125,24 +176,34 @@ fn a_journal_is_written_with_lower_names_first(rt: HostRuntime) -> Result<(), Fa
     assert_eq!(rt; none.as_slice(), b"parfum journal 1\nend 0\n".as_slice());
     let entries = [
         entry(0, 0, Op::Flip { a: 9, b: 7 }),
-        entry(1, 65535, Op::Flip { a: 2, b: 2 }),
+        entry(1, 65535, Op::Bisect { a: 8, b: 2 }),
         entry(
             2,
             7,
-            Op::Flip {
-                a: 4_294_967_295,
-                b: 0,
+            Op::Contract {
+                u: 4_294_967_295,
+                v: 0,
             },
         ),
     ];
     let text = journal_text(rt.alloc(), &entries)?;
     let wanted =
-        b"parfum journal 1\n0 0 flip 7 9\n1 65535 flip 2 2\n2 7 flip 0 4294967295\nend 3\n";
+        b"parfum journal 1\n0 0 flip 7 9\n1 65535 bisect 2 8\n2 7 contract 4294967295 0\nend 3\n";
     assert_eq!(rt; text.as_slice(), wanted.as_slice());
     Ok(())
 }
 
-// A random journal; where `turned`, the names of about half its flips stand the wrong way round.
+// The word of an operation, and whether its names may stand either way round.
+fn random_kind(n: u64) -> (&'static str, bool) {
+    match n % 3 {
+        0 => ("flip", true),
+        1 => ("bisect", true),
+        _ => ("contract", false),
+    }
+}
+
+// A random journal; where `turned`, the names of about half its flips and bisections stand the wrong
+// way round.
 fn random_text(alloc: Global, count: u32, seed: u64, turned: bool) -> Result<Vec<u8>, Fail> {
     let mut state = seed;
     let mut text = Vec::new(alloc);
@@ -154,10 +215,11 @@ fn random_text(alloc: Global, count: u32, seed: u64, turned: bool) -> Result<Vec
         let chunk = (state >> 20) % 65536;
         let low = (state >> 32) % 2_147_483_648;
         let high = low + (state >> 40) % 1024;
-        let line = if turned && state >> 63 == 1 {
-            format!(in alloc; "{ticket} {chunk} flip {high} {low}\n")?
+        let (word, turns) = random_kind(state >> 50);
+        let line = if turns && turned && state >> 63 == 1 {
+            format!(in alloc; "{ticket} {chunk} {word} {high} {low}\n")?
         } else {
-            format!(in alloc; "{ticket} {chunk} flip {low} {high}\n")?
+            format!(in alloc; "{ticket} {chunk} {word} {low} {high}\n")?
         };
         text.extend_from_slice(line.as_bytes())?;
     }

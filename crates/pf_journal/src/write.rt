@@ -3,14 +3,13 @@ ghost use Rattle.std.specs.Prelude.{◌≡◌, ◌++◌, ◌∷◌, [], OnOk, If
 ghost use Rattle.pf_model.specs.Texts.{journal_text, line_text, op_words, entry_words};
 ghost use Rattle.pf_journal.specs.Entries.{HasTickets};
 
-use crate::step::normal;
 use itoa::Buffer;
 use pf_geom::NoMemory;
 use pf_model::{Entry, Op};
 use std::alloc::Global;
 
-/// Writes the text of a journal whose tickets are 0, 1, 2 and so on. The lower name of a flip
-/// stands first in it.
+/// Writes the text of a journal whose tickets are 0, 1, 2 and so on. The lower name of a
+/// flip or a bisection stands first in it; a contraction has its names as they are.
 pub fn journal_text(alloc: Global, h: &[Entry]) -> Result<Vec<u8>, NoMemory>
     requires { HasTickets h.now }
     ensures { IfOk result (λ text. text.items ≡ journal_text h.now) }
@@ -42,8 +41,10 @@ fn push_entry(text: &mut Vec<u8>, entry: Entry) -> Result<(), NoMemory>
 fn op_parts(op: Op) -> (&'static [u8], u32, u32)
     ensures { op_words op ≡ result.0.now ∷ decimal result.1 ∷ decimal result.2 ∷ [] }
 {
-    match normal(op) {
+    match op.normal() {
         Op::Flip { a, b } => (b"flip", a, b),
+        Op::Bisect { a, b } => (b"bisect", a, b),
+        Op::Contract { u, v } => (b"contract", u, v),
     }
 }
 

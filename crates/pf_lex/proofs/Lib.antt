@@ -1,4 +1,5 @@
 pub mod Examples
+pub mod Filled
 pub mod Laws
 pub mod LineLemmas
 pub mod NumberLaws

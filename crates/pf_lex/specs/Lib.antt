@@ -2,3 +2,4 @@ pub mod Text
 pub mod Token
 pub mod Number
 pub mod Written
+pub mod Steps

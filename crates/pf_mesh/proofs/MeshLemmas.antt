@@ -9,15 +9,13 @@ use Rattle.std.proofs.lemmas.Bool.Decides.{nat_tests}
 use Rattle.std.proofs.lemmas.List.{get_or_past}
 use Rattle.std.proofs.lemmas.List.Elements.{Contains-get_or}
 use Rattle.pf_geom.specs.declared.Point.{Point}
-use Rattle.pf_geom.specs.Plane.{IsInRange}
 use Rattle.pf_model.specs.declared.Tri.{Tri}
 use Rattle.pf_model.specs.Mesh.{Undivided, has_corner, point_of}
 use Rattle.pf_model.specs.Conforming.{IsConforming, IsLive}
 use Rattle.pf_model.proofs.Kept.{any-means}
 use Rattle.pf_model.proofs.Triangles.{has_corner-means}
 use Rattle.pf_mesh.specs.declared.table.Node.{Node}
-use Rattle.pf_mesh.specs.Table.{Sides, edge_eq, side_value, no_node, place_at, triangles_at, site_at, number_at, IsWithin, HasSamePlaces, ShowsTriangles, Shows}
-use Rattle.pf_mesh.specs.Mesh.{IsKept}
+use Rattle.pf_mesh.specs.Table.{Sides, edge_eq, side_value, no_node, place_at, triangles_at, site_at, number_at, IsWithin, ShowsTriangles, Shows}
 
 apart : (b : Bool) → b ≡ true → b ≡ false → ⊥
 apart b e f = let k : true ≡ false = sym e ∙ f in absurd (cc)
@@ -91,15 +89,6 @@ shows-from sides nodes m ok s places = record { triangles = s; sites = λ n. go 
 pub shown-place : (sides : Sides) (nodes : List Node) (m : Undivided) → Shows sides nodes m → (n : ℕ) (p : Point) → point_of m.sites n ≡ Some p → place_at nodes n ≡ p
 shown-place sides nodes m s n p e = (some-site nodes n p (s.sites n ∙ e)).1
 
--- the same sites, and other triangles
-pub kept-exchanged : (sides new : Sides) (nodes after : List Node) (m : Undivided) (ts : List Tri) → IsKept sides nodes m → IsConforming record m { tris = ts } → ShowsTriangles new after ts → HasSamePlaces nodes after → IsKept new after record m { tris = ts }
-kept-exchanged sides new nodes after m ts k ok s same =
-    record {
-      conforming = ok;
-      shows = shows-from new after record m { tris = ts } ok s (λ n p e. same.places n ∙ shown-place sides nodes m k.shows n p e);
-      in_range = record { each = λ n. subst (λ p. IsInRange p) (sym (same.places n)) (k.in_range.each n) };
-    }
-
 -- a table with the same entries and nodes shows the same
 pub shows-unchanged : (sides new : Sides) (nodes after : List Node) (ts : List Tri) → IsUnchanged sides new → after ≡ nodes → ShowsTriangles sides nodes ts → ShowsTriangles new after ts
 shows-unchanged sides new nodes after ts u e s =
@@ -108,9 +97,3 @@ shows-unchanged sides new nodes after ts u e s =
       counts = λ n. ap (λ ns. triangles_at ns n) e ∙ s.counts n;
       all = ap length u ∙ s.all;
     }
-
-pub same_places-unchanged : (nodes after last : List Node) → after ≡ nodes → HasSamePlaces after last → HasSamePlaces nodes last
-same_places-unchanged nodes after last e s = subst (λ ns. HasSamePlaces ns last) e s
-
-pub all_within-unchanged : (nodes after : List Node) (ts : List Tri) → after ≡ nodes → All (IsWithin nodes) ts → All (IsWithin after) ts
-all_within-unchanged nodes after ts e h = subst (λ ns. All (IsWithin ns) ts) (sym e) h

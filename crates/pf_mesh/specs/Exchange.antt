@@ -1,5 +1,5 @@
 -- Some triangles of a list give way to others.
-use Rattle.std.specs.Prelude.{◌≡◌, ◌≢◌, ℕ, ◌+◌, ◌<◌, List, [], ◌∷◌, true, false, not, filter, Contains}
+use Rattle.std.specs.Prelude.{◌≡◌, ◌≢◌, ℕ, ◌+◌, ◌<◌, List, [], ◌∷◌, true, false, not, filter, Contains, Option, Some, None}
 use Rattle.pf_model.specs.declared.Tri.{Tri}
 use Rattle.pf_model.specs.Rising.{insert_all_by}
 use Rattle.pf_model.specs.Mesh.{Side, tri_lt, tri_of, has_edge}
@@ -63,6 +63,11 @@ pub record CanTake (gone ts : List Tri) : Type 0 where
 pub record CanExchange (gone new ts : List Tri) : Type 0 where
   pub take : CanTake gone ts
   pub fit : AreFit new (without_all gone ts)
+
+-- the triangle left of the directed edge p to q, where there is one
+abbrev pub whole_of : ℕ → ℕ → Option Side → List Tri
+whole_of p q None = []
+whole_of p q (Some s) = tri_of p q s.apex s.owner ∷ []
 
 -- the two triangles of an edge
 abbrev pub two_of : ℕ → ℕ → Side → Side → List Tri

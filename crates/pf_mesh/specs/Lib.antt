@@ -3,3 +3,12 @@ pub mod Table
 pub mod Listing
 pub mod Mesh
 pub mod BuildSteps
+pub mod Star
+pub mod Contract
+pub mod Lengths
+pub mod Operations
+pub mod Sites
+pub mod Tables
+pub mod Relist
+pub mod Run
+pub mod Rest

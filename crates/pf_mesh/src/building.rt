@@ -10,6 +10,7 @@ ghost use Rattle.pf_model.specs.Rising.{sorted_by};
 ghost use Rattle.pf_mesh.specs.Exchange.{AreSound};
 ghost use Rattle.pf_model.specs.Build.{turned_left, build_clauses, first_fault, default_band, built};
 ghost use Rattle.pf_model.specs.Conforming.{IsConforming};
+ghost use Rattle.pf_model.specs.Tables.{AreListed};
 ghost use Rattle.pf_model.specs.declared.BuildErr.{BuildErr};
 ghost use Rattle.pf_mesh.specs.BuildSteps.{twice_of, earlier_from, live_sites, IsEmptyTable, AreEntered, ArePart};
 ghost use Rattle.pf_mesh.specs.Table.{ShowsTriangles, HasSamePlaces};
@@ -120,8 +121,8 @@ fn enter_triangles(
     Ok(())
 }
 
-// Puts the triangles in rising order.
-fn sort_listed(listed: &mut Vec<Tri>)
+/// Puts the triangles in rising order.
+pub(crate) fn sort_listed(listed: &mut Vec<Tri>)
     requires { AreSound listed.old.items }
     ensures { listed.new.items ≡ sorted_by tri_lt listed.old.items }
 {
@@ -178,6 +179,8 @@ pub fn build(alloc: Global, points: &[Point], tris: &[[u32; 3]]) -> Result<Mesh,
     ensures ok { IfOk result (λ m. built points.now tris.now ≡ Ok m) }
     ensures fault { (e : BuildErr) → result ≡ Err e → e ≢ BuildErr.Memory → built points.now tris.now ≡ Err e }
     ensures conforming { IfOk result (λ m. IsConforming m) }
+    // The list has a place for each triangle, as `with_tables` asks.
+    ensures listed { IfOk result (λ m. AreListed tris.now m.tris) }
 {
     let Ok(mut table) = EdgeTable::of_points(alloc, points, tris.len()) else {
         return Err(BuildErr::Memory);

@@ -22,8 +22,8 @@ fn is_owned_by(side: Option<Left>, chunk: u16) -> bool
     }
 }
 
-// Whether the path turns left.
-fn turns_left(a: Point, b: Point, c: Point) -> bool
+/// Whether the path turns left.
+pub fn turns_left(a: Point, b: Point, c: Point) -> bool
     requires a { IsInRange a }
     requires b { IsInRange b }
     requires c { IsInRange c }
@@ -32,8 +32,8 @@ fn turns_left(a: Point, b: Point, c: Point) -> bool
     orient(a, b, c) > 0
 }
 
-// Whether the first edge is shorter than the second.
-fn is_shorter(a: Point, b: Point, c: Point, d: Point) -> bool
+/// Whether the first edge is shorter than the second.
+pub fn is_shorter(a: Point, b: Point, c: Point, d: Point) -> bool
     requires a { IsInRange a }
     requires b { IsInRange b }
     requires c { IsInRange c }
@@ -45,7 +45,7 @@ fn is_shorter(a: Point, b: Point, c: Point, d: Point) -> bool
 
 impl EdgeTable {
     // The conditions of every operation at an edge.
-    fn edge_condition(&self, chunk: u16, a: u32, b: u32) -> Option<Cond>
+    pub(crate) fn edge_condition(&self, chunk: u16, a: u32, b: u32) -> Option<Cond>
         ensures { (m : Undivided) → Shows self.now.sides self.now.nodes.items m → result ≡ first_of (edge_clauses m chunk a b) }
     {
         if a == b || !self.is_edge(a, b) {
@@ -58,7 +58,7 @@ impl EdgeTable {
     }
 
     // The conditions of a flip alone.
-    fn turning_condition(&self, lo: u32, hi: u32) -> Option<Cond>
+    pub(crate) fn turning_condition(&self, lo: u32, hi: u32) -> Option<Cond>
         requires { AreInRange self.now.nodes.items }
         ensures { (m : Undivided) → Shows self.now.sides self.now.nodes.items m
             → result ≡ first_of (flip_clauses m lo hi (apex_or (side_of m.tris lo hi)) (apex_or (side_of m.tris hi lo))) }

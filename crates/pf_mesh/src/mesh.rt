@@ -1,21 +1,29 @@
 //! The undivided mesh.
-ghost use Rattle.std.specs.Prelude.{◌≡◌, ℕ, ◌+◌, ◌<◌, ◌≤◌, ◌↔◌, length, Option, Some, None, Err, OnOk, OnErr};
+ghost use Rattle.std.specs.Prelude.{◌≡◌, ℕ, ◌+◌, ◌<◌, ◌≤◌, ◌↔◌, All, length, take, Option, Some, None, Ok, Err, OnOk, OnErr, IfOk, IfErr};
 ghost use Rattle.pf_geom.specs.Plane.{IsInRange};
 ghost use Rattle.pf_model.specs.declared.Cond.{Cond};
-ghost use Rattle.pf_model.specs.declared.Op.TheVariants.{Flip};
 ghost use Rattle.pf_model.specs.Mesh.{point_of};
-ghost use Rattle.pf_model.specs.Conforming.{IsLive, IsConforming};
+ghost use Rattle.pf_model.specs.Conforming.{IsLive, IsConforming, HasDefault};
+ghost use Rattle.pf_model.specs.Ends.{AreEndsLive, first_end, second_end, gone_end};
 ghost use Rattle.pf_model.specs.Conditions.{first_failing};
-ghost use Rattle.pf_model.specs.Applied.{applied, flipped};
+ghost use Rattle.pf_model.specs.Applied.{IsFresh, applied, op_applied};
+ghost use Rattle.pf_model.specs.Replay.{replayed};
 ghost use Rattle.pf_model.specs.Sums.{area2_of};
-ghost use Rattle.std.specs.Prelude.{min, max};
-ghost use Rattle.pf_mesh.specs.Exchange.{CanExchange};
-ghost use Rattle.pf_mesh.specs.Mesh.{AreEndsLive, gone_end, exchanged_in, mesh_of, IsKept};
+ghost use Rattle.pf_model.specs.Tables.{AreListed, with_tables_of};
+ghost use Rattle.pf_model.specs.Wishes.{rest_of};
+ghost use Rattle.pf_mesh.specs.Mesh.{mesh_of, IsKept};
+ghost use Rattle.pf_mesh.specs.Operations.{CanApply};
+ghost use Rattle.pf_mesh.specs.Run.{HasTickets, ArePassed, IsStopped};
 
 use crate::listing::exchange_listed;
-use crate::table::{EdgeTable, Turn, turn_edge};
+use crate::relist::{relist_sites, relist_tris};
+use crate::run::{RunErr, run};
+use crate::sites::change_sites;
+use crate::table::EdgeTable;
+use crate::tables::{own_listed, own_tris};
 use pf_geom::{NoMemory, Point};
-use pf_model::{Band, Cond, Entry, Op, Site, Tri};
+use pf_model::{Band, Cond, Entry, Op, RestLine, Site, Tri};
+use std::alloc::Global;
 use std::marker::Model;
 use thiserror::Error;
 
@@ -126,14 +134,72 @@ impl Mesh {
         self.chunks
     }
 
+    /// The mesh with other owners and another size table. The triangle with the corners of `listed[i]` gets
+    /// the owner `owners[i]`, in whatever order the corners stand there; sites and corners stay.
+    ///
+    /// `listed` has a place for each triangle, as the list has that is given to `build`. Takes no memory,
+    /// so it never fails.
+    pub fn with_tables(
+        self,
+        listed: &[[u32; 3]],
+        owners: Vec<u16>,
+        chunks: u16,
+        bands: Vec<Band>,
+    ) -> Result<Mesh, NoMemory>
+        requires listed { AreListed listed.now self.tris }
+        requires as_many { length owners.items ≡ length listed.now }
+        requires owned { All (λ owner. owner < chunks) owners.items }
+        requires default { HasDefault bands.items }
+        ensures value { result ≡ Ok (with_tables_of listed.now owners.items chunks bands.items self) }
+        ensures conforming { IfOk result (λ m. IsConforming m) }
+    {
+        let Mesh {
+            first_new,
+            mut table,
+            sites,
+            mut tris,
+            ..
+        } = self;
+        own_listed(&mut table.sides, listed, &owners);
+        own_tris(&mut tris, &table.sides);
+        Ok(Mesh::of_kept(first_new, table, sites, tris, bands, chunks))
+    }
+
     /// The first condition that an operation fails, or `None` where it passes. Takes no memory.
     pub fn first_fail(&self, chunk: u16, op: Op) -> Option<Cond>
         requires { AreEndsLive self.now op }
         ensures { result ≡ first_failing self.now chunk op }
     {
-        match op {
-            Op::Flip { a, b } => self.table.flip_condition(chunk, a, b),
+        self.table.condition(&self.bands, chunk, op)
+    }
+
+    /// The rest list: a line for each edge that is longer than its band allows, with the edge where the walk
+    /// to longer edges ends and what forbids its bisection; a line for each edge that is shorter, with what
+    /// forbids its contraction each way; and a line for each edge whose flip passes. Each part is by rising
+    /// names. `NoMemory` says that there was no room for the edges or the lines.
+    ///
+    /// For F triangles it takes time in proportion to F log F, expected, however long the walks are: where one
+    /// ends is noted for each edge on its way.
+    pub fn rest(&self, alloc: Global) -> Result<Vec<RestLine>, NoMemory>
+        ensures { IfOk result (λ lines. lines.items ≡ rest_of self.now) }
+    {
+        let lines = self.table.rest(alloc, &self.tris, &self.bands)?;
+        Ok(lines)
+    }
+
+    // The first end of an operation that isn't live.
+    fn gone_node(&self, op: Op) -> Option<u32>
+        ensures value { result ≡ gone_end self.now op }
+        ensures conforming { IsConforming self.now }
+    {
+        let (first, second) = ends(op);
+        if self.site(first).is_none() {
+            return Some(first);
         }
+        if self.site(second).is_none() {
+            return Some(second);
+        }
+        None
     }
 
     /// Applies an operation, and takes its triangles in the list's order at once. After an error the mesh
@@ -142,7 +208,7 @@ impl Mesh {
     /// `Gone` names the first end, as written, that isn't live; else `Refused` has the first condition
     /// that the operation fails. `Memory` says that there was no room for the change.
     pub fn apply(&mut self, e: &Entry) -> Result<(), ApplyErr>
-        requires fresh { (n : ℕ) → IsLive self.old n → n < self.old.first_new + e.now.ticket }
+        requires fresh { IsFresh self.old e.now.ticket }
         requires named { self.old.first_new + e.now.ticket < 1048576 }
         ensures applied { OnOk result (self.new ≡ applied self.old e.now) }
         ensures passes { OnOk result (first_failing self.old e.now.chunk e.now.op ≡ None) }
@@ -155,54 +221,88 @@ impl Mesh {
         ensures conforming { IsConforming self.new }
         ensures area { area2_of self.new ≡ area2_of self.old }
     {
-        let Op::Flip { a, b } = e.op;
-        if self.site(a).is_none() {
-            return Err(ApplyErr::Gone { node: a });
-        }
-        if self.site(b).is_none() {
-            return Err(ApplyErr::Gone { node: b });
+        if let Some(node) = self.gone_node(e.op) {
+            return Err(ApplyErr::Gone { node });
         }
         if let Some(cond) = self.first_fail(e.chunk, e.op) {
             return Err(ApplyErr::Refused { cond });
         }
-        let Turn { gone, new } = self.flip_turn(e.chunk, a, b);
-        match self.exchange(&gone, &new) {
+        match self.perform(self.first_new() + e.ticket, e.op) {
             Ok(()) => Ok(()),
             Err(NoMemory) => Err(ApplyErr::Memory),
         }
     }
 
-    // The triangles that give way in a flip, and those that they give way to.
-    fn flip_turn(&self, chunk: u16, a: u32, b: u32) -> Turn
-        requires { first_failing self.now chunk (Flip a b) ≡ None }
-        ensures can { CanExchange result.gone result.new self.now.tris }
-        ensures turned { exchanged_in self.now result.gone result.new ≡ flipped self.now (min a b) (max a b) }
-        ensures conforming { IsConforming (exchanged_in self.now result.gone result.new) }
+    /// Applies the entries of a journal one after another, up to the first that `apply` wouldn't apply, and
+    /// lists the nodes and triangles anew at the end.
+    ///
+    /// `ticket` of an error is that of the entry that isn't applied, and `fault` what `apply` would say of
+    /// it; the mesh is then that after the entries before it. `Memory` says that there was no room for the
+    /// change.
+    pub fn apply_all(&mut self, entries: &[Entry]) -> Result<(), RunErr>
+        requires fresh { IsFresh self.old 0 }
+        requires tickets { HasTickets entries.now }
+        requires named { self.old.first_new + length entries.now ≤ 1048576 }
+        ensures replayed { OnOk result (self.new ≡ replayed self.old entries.now) }
+        ensures passed { OnOk result (ArePassed self.old entries.now) }
+        ensures stopped { IfErr result (λ stop. IsStopped self.old entries.now stop.ticket stop.fault) }
+        ensures before { IfErr result (λ stop. self.new ≡ replayed self.old (take stop.ticket entries.now)) }
+
+        // A run keeps the mesh conforming, and twice its area.
+        ensures conforming { IsConforming self.new }
+        ensures area { area2_of self.new ≡ area2_of self.old }
     {
-        let (lo, hi) = (a.min(b), a.max(b));
-        let Some(left) = self.table.side(lo, hi) else {
-            unreachable!()
-        };
-        let Some(right) = self.table.side(hi, lo) else {
-            unreachable!()
-        };
-        turn_edge(lo, hi, left, right)
+        let first_new = self.first_new();
+        if entries.is_empty() {
+            return Ok(());
+        }
+        self.sites.clear();
+        self.tris.clear();
+        let ran = run(
+            &mut self.table,
+            &mut self.sites,
+            &mut self.tris,
+            &self.bands,
+            first_new,
+            entries,
+        );
+        relist_sites(
+            &self.table,
+            first_new + entries.len() as u32,
+            &mut self.sites,
+        );
+        relist_tris(&self.table, &mut self.tris);
+        ran
     }
 
-    // The first triangles give way to the second.
-    fn exchange(&mut self, gone: &[Tri], new: &[Tri]) -> Result<(), NoMemory>
-        requires few { length new.now ≤ 60 }
-        requires can { CanExchange gone.now new.now self.old.tris }
-        requires conforming { IsConforming (exchanged_in self.old gone.now new.now) }
-        ensures ok { OnOk result (self.new ≡ exchanged_in self.old gone.now new.now) }
+    // Performs an operation that passes. A bisection's new node is named `n`. All room is made before
+    // anything changes.
+    fn perform(&mut self, n: u32, op: Op) -> Result<(), NoMemory>
+        requires { CanApply self.old n op }
+        ensures ok { OnOk result ((can : CanApply self.old n op) → self.new ≡ op_applied self.old can.ticket op) }
         ensures err { OnErr result (self.new ≡ self.old) }
     {
-        if self.tris.reserve(new.len()).is_err() {
+        if self.tris.reserve(60).is_err() {
             return Err(NoMemory);
         }
-        self.table.reserve(new.len())?;
-        self.table.exchange(gone, new);
-        exchange_listed(&mut self.tris, gone, new);
+        if self.sites.reserve(1).is_err() {
+            return Err(NoMemory);
+        }
+        let change = self.table.apply(n, op)?;
+        exchange_listed(&mut self.tris, &change.gone, &change.new);
+        change_sites(&mut self.sites, n, self.table.place(n), op);
         Ok(())
+    }
+}
+
+/// The two ends of an operation, as written.
+pub(crate) fn ends(op: Op) -> (u32, u32)
+    ensures first { result.0 ≡ first_end op }
+    ensures second { result.1 ≡ second_end op }
+{
+    match op {
+        Op::Flip { a, b } => (a, b),
+        Op::Bisect { a, b } => (a, b),
+        Op::Contract { u, v } => (u, v),
     }
 }

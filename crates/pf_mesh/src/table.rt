@@ -295,27 +295,3 @@ pub fn turned(p: u32, q: u32, z: u32, owner: u16) -> Tri
         }
     }
 }
-
-/// Two triangles that give way to two.
-#[derive(Clone, Copy)]
-pub struct Turn {
-    pub gone: [Tri; 2],
-    pub new: [Tri; 2],
-}
-
-/// The triangles of the edge `lo`, `hi`, with these on its left and right, and what a flip makes of them.
-pub fn turn_edge(lo: u32, hi: u32, left: Left, right: Left) -> Turn
-    ensures gone { result.gone ≡ two_of lo hi (side_value left) (side_value right) }
-    ensures new { result.new ≡ turned_of lo hi (side_value left) (side_value right) }
-{
-    Turn {
-        gone: [
-            turned(lo, hi, left.apex, left.owner),
-            turned(hi, lo, right.apex, right.owner),
-        ],
-        new: [
-            turned(lo, right.apex, left.apex, left.owner),
-            turned(hi, left.apex, right.apex, right.owner),
-        ],
-    }
-}

@@ -2,6 +2,12 @@
 ghost use Rattle.std.specs.Prelude.{◌≡◌, ℕ, ◌<◌, ◌≤◌, All, IfOk, length};
 ghost use Rattle.pf_geom.specs.Plane.{IsInRange};
 ghost use Rattle.pf_model.specs.Conforming.{IsLive};
+ghost use Rattle.pf_model.specs.Tables.{AreListed};
+
+mod operations;
+mod rest;
+mod run;
+mod tables;
 
 use super::*;
 use pf_geom::Point;
@@ -49,6 +55,8 @@ fn made(alloc: Global, points: &[Point], tris: &[[u32; 3]]) -> Result<Mesh, Buil
     requires in_range { All IsInRange points.now }
     ensures fresh { IfOk result (λ m. (n : ℕ) → IsLive m n → n < m.first_new) }
     ensures few { IfOk result (λ m. m.first_new < 1048576) }
+    ensures names { IfOk result (λ m. m.first_new ≡ length points.now) }
+    ensures listed { IfOk result (λ m. AreListed tris.now m.tris) }
 {
     let mesh = build(alloc, points, tris)?;
     Ok(mesh)

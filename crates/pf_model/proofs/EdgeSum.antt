@@ -6,14 +6,14 @@ use Rattle.std.proofs.lemmas.Int.{ints}
 use Rattle.std.proofs.lemmas.Bool.Decides.{nat_tests}
 use Rattle.std.proofs.lemmas.List.Elements.{Contains-append_cases, Contains-append_left, Contains-append_right}
 use Rattle.pf_model.specs.declared.Tri.{Tri}
-use Rattle.pf_model.specs.Rising.{insert_all_by, IsRising}
+use Rattle.pf_model.specs.Rising.{AreDifferent, insert_all_by, IsRising}
 use Rattle.pf_model.specs.Mesh.{Undivided, DirectedEdge, directed_edges_in, directed_edges_of, reversed, Side, tri_lt, has_edge, side_of}
 use Rattle.pf_model.specs.Conforming.{IsConforming, HasEdgesOnce}
 use Rattle.pf_model.specs.Sums.{total, directed_edge_lt, is_open}
 use Rattle.pf_model.proofs.Members.{nowhere, here, there, cases, filter-in, filter-out}
 use Rattle.pf_model.proofs.RisingLemmas.{IsStrictOrder, rising-head, rising-tail}
 use Rattle.pf_model.proofs.Triangles.{IsLeastFirst, tri_lt-order, has_edge-means, has_edge-from, side_of-some, side_of-none}
-use Rattle.pf_model.proofs.Totals.{AreDifferent, Compares, total-flat_map, total-filter, total-same, total-map, total-opposite, total-insert_all_by, different-append, different-filter, different-map, map-means, map-in}
+use Rattle.pf_model.proofs.Totals.{Compares, total-flat_map, total-filter, total-same, total-map, total-opposite, total-insert_all_by, different-append, different-filter, different-map, map-means, map-in}
 
 pub directed_edge_lt-order : IsStrictOrder directed_edge_lt
 directed_edge_lt-order = record { irreflexive = λ x. grind (arith, nat_tests); transitive = λ x y z h k. grind (arith, nat_tests) }

@@ -1,13 +1,17 @@
--- Reading conditions: where no clause comes, each test was false. A flip that passes, as one record.
-use Rattle.std.proofs.Common.{◌≡◌, ◌≢◌, ℕ, List, ◌∷◌, refl, subst, Bool, true, false, arith, ◌&&◌, ◌||◌}
-use Rattle.std.specs.Prelude.{ℤ, pos, ◌<ℤ◌, int_lt, not, Option, Some, None, is_some, min, max, ◌==◌}
+-- Reading conditions: where no clause comes, each test was false. A flip, and a bisection, that passes, as one record each.
+use Rattle.std.proofs.Common.{◌≡◌, ◌≢◌, ℕ, ◌≤◌, List, ◌∷◌, refl, subst, Bool, true, false, ◌⊎◌, inl, inr, arith, ◌&&◌, ◌||◌}
+use Rattle.std.specs.Prelude.{ℤ, pos, ◌<ℤ◌, ◌*ℤ◌, int_lt, not, Option, Some, None, is_some, min, max, ◌==◌}
 use Rattle.std.proofs.lemmas.Bool.Decides.{nat_tests}
-use Rattle.pf_model.specs.declared.Cond.TheVariants.{NoEdge, Foreign, OnBoundary, NotConvex, NotShorter, EdgeThere}
+use Rattle.pf_model.specs.declared.Tri.{Tri}
+use Rattle.pf_model.specs.declared.Cond.TheVariants.{NoEdge, Foreign, OnBoundary, NotConvex, NotShorter, EdgeThere, TooShort, OddMidpoint}
 use Rattle.std.proofs.lemmas.Int.{ints}
-use Rattle.pf_model.specs.declared.Op.TheVariants.{Flip}
-use Rattle.pf_model.specs.Mesh.{Undivided, Side, is_edge, side_of, turn_at, len2_at}
+use Rattle.pf_model.specs.declared.Op.TheVariants.{Flip, Bisect}
+use Rattle.pf_geom.specs.declared.Point.{Point}
+use Rattle.pf_geom.specs.Plane.{middle_of}
+use Rattle.pf_model.specs.Mesh.{Undivided, Side, is_edge, side_of, place_of, turn_at, len2_at}
 use Rattle.pf_model.specs.Clauses.{when, first_of}
-use Rattle.pf_model.specs.Conditions.{first_failing, apex_or, is_positive, flip_clauses, is_owned}
+use Rattle.pf_model.specs.Conditions.{first_failing, apex_or, is_positive, flip_clauses, is_owned, not_longest}
+use Rattle.pf_model.specs.Lengths.{min2_of}
 
 pub when-none : {X : Type 0} (b : Bool) (c : X) → when b c ≡ None → b ≡ false
 when-none true c h = absurd (let e : Some c ≡ None = h in cc)
@@ -89,3 +93,43 @@ flip_passes m chunk a b h =
     let t1 : first_of (flip_clauses m lo hi (apex_or (Some l.0)) (apex_or (side_of m.tris hi lo))) ≡ None = subst (λ o. first_of (flip_clauses m lo hi (apex_or o) (apex_or (side_of m.tris hi lo))) ≡ None) l.1 two.1 in
     let t2 : first_of (flip_clauses m lo hi (apex_or (Some l.0)) (apex_or (Some r.0))) ≡ None = subst (λ o. first_of (flip_clauses m lo hi (apex_or (Some l.0)) (apex_or o)) ≡ None) r.1 t1 in
     (apart_by_test a b differ.0, (l.0, r.0, flip_passes_at m lo hi l.0 r.0 l.1 r.1 t2))
+
+-- a bisection of the edge a, b passes, whose middle is p. Its other conditions speak of lengths alone
+pub record BisectPasses (m : Undivided) (lo hi : ℕ) (p : Point) : Type 0 where
+  pub middle : middle_of (place_of m lo) (place_of m hi) ≡ Some p
+  pub edge : is_edge m.tris lo hi ≡ true
+
+is_edge-back : (ts : List Tri) (a b : ℕ) → is_edge ts a b ≡ true → is_edge ts b a ≡ true
+is_edge-back ts a b h = or_back (is_some (side_of ts a b)) (is_some (side_of ts b a)) h
+  where
+    or_back : (x y : Bool) → (x || y) ≡ true → (y || x) ≡ true
+    or_back true true e = refl
+    or_back true false e = refl
+    or_back false true e = refl
+    or_back false false e = e
+
+-- an edge by its lower and its higher name
+pub is_edge-sorted : (ts : List Tri) (a b : ℕ) → is_edge ts a b ≡ true → is_edge ts (min a b) (max a b) ≡ true
+is_edge-sorted ts a b h = go (dec_le a b)
+  where
+    dec_le : (x y : ℕ) → (x ≤ y) ⊎ (y ≤ x)
+    dec_le x y = grind arith
+
+    go : (a ≤ b) ⊎ (b ≤ a) → is_edge ts (min a b) (max a b) ≡ true
+    go (inl l) = let e : min a b ≡ a = omega arith in let f : max a b ≡ b = omega arith in rw (e, f) h
+    go (inr l) = let e : min a b ≡ b = omega arith in let f : max a b ≡ a = omega arith in rw (e, f) (is_edge-back ts a b h)
+
+pub bisect_passes : (m : Undivided) (chunk a b : ℕ) → first_failing m chunk (Bisect a b) ≡ None → (p : Point) × BisectPasses m (min a b) (max a b) p
+bisect_passes m chunk a b h =
+    let lo = min a b in
+    let hi = max a b in
+    let one = first_of-none (when (a == b || not (is_edge m.tris a b)) NoEdge) _ h in
+    let two = first_of-none (when (not (is_owned chunk (side_of m.tris a b) || is_owned chunk (side_of m.tris b a))) Foreign) _ one.1 in
+    let differ = or-false (a == b) _ (when-none _ _ one.0) in
+    let edge = is_edge-sorted m.tris a b (not-false _ differ.1) in
+    let three = first_of-none (when (int_lt (len2_at m lo hi) (pos 4 *ℤ min2_of m lo hi)) (TooShort lo hi)) _ two.1 in
+    let four = first_of-none (not_longest m lo hi (side_of m.tris lo hi)) _ three.1 in
+    let five = first_of-none (not_longest m hi lo (side_of m.tris hi lo)) _ four.1 in
+    let six = first_of-none (when (not (is_some (middle_of (place_of m lo) (place_of m hi)))) OddMidpoint) _ five.1 in
+    let p = is_some-holds _ (not-false _ (when-none _ _ six.0)) in
+    (p.0, record { middle = p.1; edge = edge })

@@ -1,4 +1,4 @@
--- Worked meshes, computed on the definitions.
+-- Worked meshes, computed on the definitions: what is built, flips and texts.
 use Rattle.std.specs.Prelude.{◌≡◌, ℕ, List, [], ◌∷◌, pos, negsuc, ℤ, Some, None, Ok, Err, codes, refl}
 use Rattle.std.specs.Fmt.{digits}
 use Rattle.pf_geom.specs.declared.Point.{Point}
@@ -15,40 +15,40 @@ use Rattle.pf_model.specs.Sums.{area2_of}
 use Rattle.pf_model.specs.Build.{built, default_band}
 use Rattle.pf_model.specs.Texts.{mesh_node_text, mesh_ele_text, journal_text, replay_report}
 
-abbrev at : ℤ → ℤ → Point
+abbrev pub at : ℤ → ℤ → Point
 at x y = record { x = x; y = y }
 
-abbrev site : ℕ → Point → Site
+abbrev pub site : ℕ → Point → Site
 site n p = record { name = n; at = p }
 
-abbrev t : ℕ → ℕ → ℕ → Tri
+abbrev pub t : ℕ → ℕ → ℕ → Tri
 t a b c = record { a = a; b = b; c = c; owner = 0 }
 
 abbrev corners : ℕ → ℕ → ℕ → List ℕ
 corners a b c = a ∷ b ∷ c ∷ []
 
-abbrev mesh : ℕ → List Site → List Tri → Undivided
+abbrev pub mesh : ℕ → List Site → List Tri → Undivided
 mesh n ss ts = record { first_new = n; sites = ss; tris = ts; bands = default_band ∷ []; chunks = 1 }
 
 abbrev flip : ℕ → ℕ → ℕ → Entry
 flip k a b = record { ticket = k; chunk = 0; op = Flip a b }
 
 -- a square of side 4 with the diagonal 0 2
-abbrev square : Undivided
+abbrev pub square : Undivided
 square = mesh 4 (site 0 (at (pos 0) (pos 0)) ∷ site 1 (at (pos 4) (pos 0)) ∷ site 2 (at (pos 4) (pos 4)) ∷ site 3 (at (pos 0) (pos 4)) ∷ []) (t 0 1 2 ∷ t 0 2 3 ∷ [])
 
 abbrev kite_points : List Point
 kite_points = at (pos 0) (pos 0) ∷ at (pos 8) (pos 0) ∷ at (pos 4) (pos 2) ∷ at (pos 4) (negsuc 1) ∷ []
 
-abbrev kite_sites : List Site
+abbrev pub kite_sites : List Site
 kite_sites = site 0 (at (pos 0) (pos 0)) ∷ site 1 (at (pos 8) (pos 0)) ∷ site 2 (at (pos 4) (pos 2)) ∷ site 3 (at (pos 4) (negsuc 1)) ∷ []
 
 -- two triangles over the edge 0 1, which is longer than the line between their apexes
-abbrev kite : Undivided
+abbrev pub kite : Undivided
 kite = mesh 4 kite_sites (t 0 1 2 ∷ t 0 3 1 ∷ [])
 
 -- the kite flipped
-abbrev kite_flipped : Undivided
+abbrev pub kite_flipped : Undivided
 kite_flipped = mesh 4 kite_sites (t 0 3 2 ∷ t 1 2 3 ∷ [])
 
 kite-built : built kite_points (corners 0 1 2 ∷ corners 1 0 3 ∷ []) ≡ Ok kite

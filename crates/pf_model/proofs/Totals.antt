@@ -4,6 +4,7 @@ use Rattle.std.proofs.Common.{◌≡◌, ◌≢◌, List, [], ◌∷◌, ◌++�
 use Rattle.std.specs.Prelude.{ℤ, pos, ◌+ℤ◌, Contains, filter, not, map, flat_map}
 use Rattle.std.proofs.lemmas.Int.{ints}
 use Rattle.std.proofs.lemmas.List.Elements.{Contains-append_cases}
+pub use Rattle.pf_model.specs.Rising.{AreDifferent}
 use Rattle.pf_model.specs.Rising.{insert_by, insert_all_by, IsRising}
 use Rattle.pf_model.specs.Sums.{total}
 use Rattle.pf_model.proofs.Members.{nowhere, here, there, cases, filter-in, filter-out, insert_all_by-new, insert_all_by-cases}
@@ -56,11 +57,6 @@ total-replaced f lt removed added xs =
     let a = total-insert_all_by f lt added (filter (λ t. not (removed t)) xs) in
     let b = total-filter f removed xs in
     omega (arith, ints, a, b)
-
--- no element stands twice
-abbrev pub AreDifferent : {X : Type 0} → List X → Type 0
-AreDifferent [] = Unit {0}
-AreDifferent {X} (x ∷ xs) = ((z : X) → Contains xs z → x ≢ z) × AreDifferent xs
 
 -- two different elements stand one before the other
 abbrev pub Compares : {X : Type 0} → (X → X → Bool) → Type 0

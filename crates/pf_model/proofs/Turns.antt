@@ -1,11 +1,12 @@
 -- Orientations of names: turned round, of names that are not distinct, edges' cross products, the faces of a tetrahedron.
 use Rattle.std.proofs.Common.{◌≡◌, ◌≢◌, ℕ, refl, sym, subst, Bool, true, false, cond, arith}
-use Rattle.std.specs.Prelude.{ℤ, pos, ◌+ℤ◌, ◌-ℤ◌, ◌*ℤ◌, ◌<ℤ◌, nat_lt, ◌&&◌}
+use Rattle.std.specs.Prelude.{ℤ, pos, ◌+ℤ◌, ◌-ℤ◌, ◌<ℤ◌, nat_lt, ◌&&◌}
 use Rattle.std.proofs.lemmas.Int.{ints}
 use Rattle.pf_geom.specs.declared.Point.{Point}
 use Rattle.pf_geom.specs.Plane.{orient_of}
 use Rattle.pf_model.specs.declared.Tri.{Tri}
 use Rattle.pf_model.specs.Mesh.{Undivided, tri_of, turn_at, place_of}
+use Rattle.pf_model.specs.Sums.{cross_of}
 use Rattle.pf_geom.proofs.Polynomials.{Expression, of, ◌⊕◌, ◌⊖◌, ◌⊗◌, same}
 use Rattle.pf_geom.proofs.Orientations.{turn, orient_of-turned, orient_of-twice}
 
@@ -42,10 +43,6 @@ distinct_from_turn m p q z h =
     let h2 : pos 0 <ℤ turn_at m q z p = subst (λ w. pos 0 <ℤ w) (turn_at-turned m p q z) h in
     let h3 : pos 0 <ℤ turn_at m z p q = subst (λ w. pos 0 <ℤ w) (turn_at-turned m q z p) h2 in
     record { one = apart_from_turn m p q z h; two = apart_from_turn m q z p h2; three = apart_from_turn m z p q h3 }
-
--- the cross product of two points
-abbrev pub cross_of : Point → Point → ℤ
-cross_of a b = a.x *ℤ b.y -ℤ b.x *ℤ a.y
 
 abbrev cross : Point → Point → Expression
 cross a b = (of a.x ⊗ of b.y) ⊖ (of b.x ⊗ of a.y)

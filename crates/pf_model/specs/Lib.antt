@@ -2,10 +2,17 @@ pub mod Rising
 pub mod Clauses
 pub mod Mesh
 pub mod Conforming
+pub mod Ends
+pub mod Stars
+pub mod Fans
+pub mod Lengths
 pub mod Conditions
 pub mod Applied
 pub mod Replay
 pub mod Sums
+pub mod Links
+pub mod Wishes
 pub mod Build
+pub mod Tables
 pub mod Texts
 pub mod Laws

@@ -7,7 +7,7 @@ use Rattle.pf_model.specs.declared.Tri.{Tri}
 use Rattle.pf_model.specs.declared.Site.{Site}
 use Rattle.pf_model.specs.declared.Band.{Band}
 
--- a mesh as data: a name that no node has yet and from which new names count up, the live nodes by rising name, the
+-- a mesh as data: the number of the nodes that were read, from which new names count up, the live nodes by rising name, the
 -- triangles by rising corners, the bands with the default last, and the number of chunks
 pub record Undivided : Type 0 where
   pub first_new : ℕ

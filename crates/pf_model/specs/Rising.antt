@@ -1,5 +1,5 @@
--- Lists that rise by a test, and how elements are put into them.
-use Rattle.std.specs.Prelude.{◌≡◌, List, [], ◌∷◌, Bool, true, cond, AllPairs}
+-- Lists that rise by a test, how elements are put into them, and lists without repeats.
+use Rattle.std.specs.Prelude.{◌≡◌, ◌≢◌, List, [], ◌∷◌, Bool, true, cond, AllPairs, Contains}
 
 -- the list rises strictly
 abbrev pub IsRising : {X : Type 0} → (X → X → Bool) → List X → Type 0
@@ -18,3 +18,8 @@ insert_all_by lt (x ∷ xs) ys = insert_by lt x (insert_all_by lt xs ys)
 -- the elements in rising order
 abbrev pub sorted_by : {X : Type 0} → (X → X → Bool) → List X → List X
 sorted_by lt xs = insert_all_by lt xs []
+
+-- no element stands twice
+abbrev pub AreDifferent : {X : Type 0} → List X → Type 0
+AreDifferent [] = Unit {0}
+AreDifferent {X} (x ∷ xs) = ((z : X) → Contains xs z → x ≢ z) × AreDifferent xs

@@ -6,10 +6,12 @@ use Rattle.pf_geom.specs.declared.Point.{Point}
 use Rattle.pf_model.specs.declared.Tri.{Tri}
 use Rattle.pf_model.specs.declared.Site.{Site}
 use Rattle.pf_model.specs.declared.Op.{Op}
-use Rattle.pf_model.specs.declared.Op.TheVariants.{Flip}
+use Rattle.pf_model.specs.declared.Op.TheVariants.{Flip, Bisect, Contract}
 use Rattle.pf_model.specs.declared.Entry.{Entry}
+use Rattle.pf_model.specs.declared.Cond.{Cond}
+use Rattle.pf_model.specs.declared.Cond.TheVariants.{NoEdge, Foreign, OnBoundary, NotConvex, NotShorter, EdgeThere, TooShort, NotLongest, OddMidpoint, TooWide, Pinched, Corner, OffBoundary, LinkNode, Inverts, TooLong}
 use Rattle.pf_model.specs.Mesh.{Undivided}
-use Rattle.pf_model.specs.Sums.{area2_of}
+use Rattle.pf_model.specs.Sums.{area2_of, euler_of, boundary_of}
 
 -- a line's words parted by one space each, and a newline
 abbrev pub line_text : List (List ℕ) → List ℕ
@@ -53,9 +55,11 @@ mesh_node_text base m = node_text base (map (λ s. s.at) m.sites)
 abbrev pub mesh_ele_text : ℕ → Undivided → List ℕ
 mesh_ele_text base m = ele_text base (map (renumbered m.sites) m.tris)
 
--- an operation's word and its two names; a flip's lower name stands first
+-- an operation's word and its two names; the lower name of a flip or a bisection stands first
 abbrev pub op_words : Op → List (List ℕ)
 op_words (Flip a b) = codes "flip" ∷ decimal (min a b) ∷ decimal (max a b) ∷ []
+op_words (Bisect a b) = codes "bisect" ∷ decimal (min a b) ∷ decimal (max a b) ∷ []
+op_words (Contract u v) = codes "contract" ∷ decimal u ∷ decimal v ∷ []
 
 -- an entry's line: ticket, chunk, operation
 abbrev pub entry_words : Entry → List (List ℕ)
@@ -71,13 +75,44 @@ journal_text entries =
     ∷ []
     )
 
--- the report of a replay of so many operations, on the mesh after it
-abbrev pub replay_report : ℕ → Undivided → List ℕ
-replay_report operations m =
-    lines_text (
-    (codes "operations" ∷ decimal operations ∷ [])
-    ∷ (codes "nodes" ∷ decimal (length m.sites) ∷ [])
+-- a condition's word and its names
+abbrev pub condition_words : Cond → List (List ℕ)
+condition_words NoEdge = codes "no-edge" ∷ []
+condition_words Foreign = codes "foreign" ∷ []
+condition_words OnBoundary = codes "on-boundary" ∷ []
+condition_words NotConvex = codes "not-convex" ∷ []
+condition_words NotShorter = codes "not-shorter" ∷ []
+condition_words (EdgeThere c d) = codes "edge-there" ∷ decimal c ∷ decimal d ∷ []
+condition_words (TooShort a b) = codes "too-short" ∷ decimal a ∷ decimal b ∷ []
+condition_words (NotLongest a b) = codes "not-longest" ∷ decimal a ∷ decimal b ∷ []
+condition_words OddMidpoint = codes "odd-middle" ∷ []
+condition_words TooWide = codes "too-wide" ∷ []
+condition_words Pinched = codes "pinched" ∷ []
+condition_words Corner = codes "corner" ∷ []
+condition_words OffBoundary = codes "off-boundary" ∷ []
+condition_words (LinkNode x) = codes "link-node" ∷ decimal x ∷ []
+condition_words (Inverts x y) = codes "inverts" ∷ decimal x ∷ decimal y ∷ []
+condition_words (TooLong a b) = codes "too-long" ∷ decimal a ∷ decimal b ∷ []
+
+-- what every report says of a mesh
+abbrev pub mesh_lines : Undivided → List (List (List ℕ))
+mesh_lines m =
+    (codes "nodes" ∷ decimal (length m.sites) ∷ [])
     ∷ (codes "triangles" ∷ decimal (length m.tris) ∷ [])
     ∷ (codes "area2" ∷ signed_decimal (area2_of m) ∷ [])
+    ∷ []
+
+-- the report of a replay of so many operations, on the mesh after it
+abbrev pub replay_report : ℕ → Undivided → List ℕ
+replay_report operations m = lines_text ((codes "operations" ∷ decimal operations ∷ []) ∷ mesh_lines m)
+
+-- the report of a check of a mesh of so many chunks
+abbrev pub check_report : ℕ → Undivided → List ℕ
+check_report chunks m =
+    lines_text (
+    mesh_lines m
+    ++ (codes "euler" ∷ signed_decimal (euler_of m) ∷ [])
+    ∷ (codes "boundary" ∷ decimal (length (boundary_of m)) ∷ [])
+    ∷ (codes "chunks" ∷ decimal chunks ∷ [])
     ∷ []
     )

@@ -1,11 +1,16 @@
 //! Laws of the definitions, each as the contract of a function that does no work.
 
-ghost use Rattle.pf_model.specs.Laws.{BuiltIsConforming, EdgeSumIsBoundarySum, JournalKeepsArea, JournalKeepsConforming, OperationKeepsArea, OperationKeepsConforming};
+ghost use Rattle.pf_model.specs.Laws.{AreaIsBoundarySum, BuiltIsConforming, BuiltIsFresh, ContractionMeetsLinkCondition, EdgeSumIsBoundarySum, JournalKeepsArea, JournalKeepsConforming, OneFanIsCycleOrPath, OperationKeepsArea, OperationKeepsConforming, WalkEndsAtTerminalEdge};
 
 /// A law, and no work: the mesh that is built of points in range, where no fault is found, is
 /// conforming.
 pub fn built_is_conforming()
     ensures { BuiltIsConforming }
+{}
+
+/// A law, and no work: the live names of a mesh that is built are below the first new one.
+pub fn built_is_fresh()
+    ensures { BuiltIsFresh }
 {}
 
 /// A law, and no work: a number for each directed edge that changes its sign with the edge's direction
@@ -14,22 +19,49 @@ pub fn edge_sum_is_boundary_sum()
     ensures { EdgeSumIsBoundarySum }
 {}
 
-/// A law, and no work: an operation that passes on a conforming mesh leaves a conforming mesh.
+/// A law, and no work: twice the area of a conforming mesh is the sum of the cross products of its
+/// boundary edges.
+pub fn area_is_boundary_sum()
+    ensures { AreaIsBoundarySum }
+{}
+
+/// A law, and no work: an operation that passes on a conforming mesh, whose live names are below the
+/// new one of its ticket, leaves a conforming mesh.
 pub fn operation_keeps_conforming()
     ensures { OperationKeepsConforming }
 {}
 
-/// A law, and no work: an operation that passes on a conforming mesh leaves its area as it was.
+/// A law, and no work: an operation that passes on a conforming mesh, whose live names are below the
+/// new one of its ticket, leaves its area as it was.
 pub fn operation_keeps_area()
     ensures { OperationKeepsArea }
 {}
 
-/// A law, and no work: the replay of a legal journal on a conforming mesh is a conforming mesh.
+/// A law, and no work: the replay of a legal journal on a conforming mesh, whose live names are below
+/// the first new one, is a conforming mesh.
 pub fn journal_keeps_conforming()
     ensures { JournalKeepsConforming }
 {}
 
-/// A law, and no work: the replay of a legal journal on a conforming mesh has its area.
+/// A law, and no work: the replay of a legal journal on a conforming mesh, whose live names are below
+/// the first new one, has its area.
 pub fn journal_keeps_area()
     ensures { JournalKeepsArea }
+{}
+
+/// A law, and no work: a contraction that passes on a conforming mesh meets the link condition.
+pub fn contraction_meets_link_condition()
+    ensures { ContractionMeetsLinkCondition }
+{}
+
+/// A law, and no work: the walk to longer edges, from any edge of any mesh, ends at a terminal edge: one
+/// of the mesh that is the longest in each triangle at it.
+pub fn walk_ends_at_terminal_edge()
+    ensures { WalkEndsAtTerminalEdge }
+{}
+
+/// A law, and no work: the test of one fan passes on the spokes of a node of a conforming mesh exactly
+/// where they are one cycle or one path.
+pub fn one_fan_is_cycle_or_path()
+    ensures { OneFanIsCycleOrPath }
 {}

@@ -6,11 +6,16 @@ use std::alloc::AllocError;
 #[test]
 fn states_its_laws() {
     built_is_conforming();
+    built_is_fresh();
     edge_sum_is_boundary_sum();
+    area_is_boundary_sum();
     operation_keeps_conforming();
     operation_keeps_area();
     journal_keeps_conforming();
     journal_keeps_area();
+    contraction_meets_link_condition();
+    walk_ends_at_terminal_edge();
+    one_fan_is_cycle_or_path();
 }
 
 #[test]

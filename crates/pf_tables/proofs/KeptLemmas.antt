@@ -1,17 +1,18 @@
 -- What is kept of numbers that are read one after another, from what is kept of each.
-use Rattle.std.proofs.Common.{◌≡◌, ℕ, Bool, true, false, List, ◌&&◌, refl, sym, ap, ◌∙◌, arith}
+use Rattle.std.proofs.Common.{◌≡◌, ℕ, Bool, true, false, List, ◌&&◌, refl, ap, ◌∙◌, arith}
 use Rattle.std.proofs.lemmas.Int.{ints}
 use Rattle.std.proofs.lemmas.Bool.Decides.{nat_tests}
 use Rattle.std.specs.Prelude.{◌<◌, nat_lt, OnOk, IfOk, ℤ, Result, Ok, Err, Option, Some, None, [], ◌∷◌}
 use Rattle.pf_lex.specs.Text.{Word}
 use Rattle.pf_geom.specs.declared.Point.{Point}
-use Rattle.pf_model.specs.declared.Band.{Band}
-use Rattle.pf_tables.specs.Steps.{◌>>=◌, at_line_end}
+use Rattle.pf_lex.specs.Steps.{at_line_end}
+use Rattle.pf_tables.specs.Steps.{◌>>=◌}
 use Rattle.pf_tables.specs.Kept.{kept, kept_in, both, corner_with, rectangle_with, are_corners_ordered, band_kept, HoldsAll}
 use Rattle.pf_tables.specs.Size.{is_coordinate, is_corner, is_rectangle, is_length_range, band_of, band_where, everywhere}
 use Rattle.pf_tables.specs.declared.size.Rectangle.{Rectangle}
 use Rattle.pf_tables.specs.declared.size.LengthRange.{LengthRange}
 use Rattle.pf_tables.specs.declared.fault.TableErr.{TableErr}
+use Rattle.pf_tables.specs.declared.fault.TableErr.TheVariants as fault
 
 -- the test of what two values make asks their tests, and one of the two together
 abbrev Asks : {A B C : Type 0} → (A → Bool) → (B → Bool) → (C → Bool) → (C → Bool) → (A → B → C) → Type 0
@@ -55,12 +56,12 @@ answer-at fits line r l true false e h = rw (e, h) refl
 answer-at fits line r l false d e h = rw e refl
 
 -- a line without a further word has its value
-at_end : {A : Type 0} (line : ℕ) (others : List Word) (value : Result A TableErr) → Ok tt ≡ at_line_end {A = Unit {0}} line others (Ok tt) → at_line_end line others value ≡ value
+at_end : {A : Type 0} (line : ℕ) (others : List Word) (value : Result A TableErr) → Ok tt ≡ at_line_end {A = Unit {0}} (fault.Word line) others (Ok tt) → at_line_end (fault.Word line) others value ≡ value
 at_end line [] value h = refl
 at_end line (word ∷ others) value h = cc
 
 -- a row's band, by what was kept of its rectangle and its lengths
-pub row-kept : (fits : Bool) (line : ℕ) (others : List Word) (a : Result Rectangle TableErr) (b : Result LengthRange TableErr) (r : Option Rectangle) (l : Option LengthRange) → Ok r ≡ kept_in is_rectangle a → Ok l ≡ kept_in is_length_range b → Ok tt ≡ at_line_end {A = Unit {0}} line others (Ok tt) → (a >>= (λ r. b >>= (λ l. at_line_end line others (band_where (is_rectangle r && is_length_range l && fits) line (band_of r l))))) ≡ band_kept fits line r l
+pub row-kept : (fits : Bool) (line : ℕ) (others : List Word) (a : Result Rectangle TableErr) (b : Result LengthRange TableErr) (r : Option Rectangle) (l : Option LengthRange) → Ok r ≡ kept_in is_rectangle a → Ok l ≡ kept_in is_length_range b → Ok tt ≡ at_line_end {A = Unit {0}} (fault.Word line) others (Ok tt) → (a >>= (λ r. b >>= (λ l. at_line_end (fault.Word line) others (band_where (is_rectangle r && is_length_range l && fits) line (band_of r l))))) ≡ band_kept fits line r l
 row-kept fits line others (Err e) b r l h k end = cc
 row-kept fits line others (Ok x) (Err e) r l h k end = cc
 row-kept fits line others (Ok x) (Ok y) r l h k end =

@@ -1,4 +1,3 @@
-pub mod Filled
 pub mod KeptLemmas
 pub mod PartLemmas
 pub mod PartReads

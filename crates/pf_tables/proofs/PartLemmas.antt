@@ -1,18 +1,18 @@
 -- A partition that was read as far as some line: what the whole text says, by what was read and what is left.
-use Rattle.std.proofs.Common.{◌≡◌, ℕ, ◌+◌, ◌-◌, ◌<◌, ◌≤◌, Bool, true, false, List, [], ◌∷◌, ◌++◌, length, refl, sym, ap, ◌∙◌, arith, append_assoc, append-nil, length-append, drop, get_or, add-one}
+use Rattle.std.proofs.Common.{◌≡◌, ℕ, ◌+◌, ◌-◌, ◌<◌, ◌≤◌, true, List, [], ◌∷◌, ◌++◌, length, refl, ap, ◌∙◌, arith, append_assoc, append-nil, length-append, drop, get_or, add-one}
 use Rattle.std.proofs.Math.Seq.{drop-cons}
 use Prim.Native.Nat.{zero, suc}
 use Rattle.std.specs.Prelude.{Result, Ok, Err, All, max, decimal}
 use Rattle.std.specs.List.{AllByRecursion}
 use Rattle.std.proofs.lemmas.List.Elements.{All-from_recursion}
-use Rattle.pf_lex.specs.Text.{TextLine, Word}
+use Rattle.pf_lex.specs.Text.{TextLine}
 use Rattle.pf_model.specs.declared.Tri.{Tri}
 use Rattle.pf_model.specs.Texts.{line_text}
 use Rattle.pf_tables.specs.Steps.{◌>>=◌}
 use Rattle.pf_tables.specs.Part.{owner_on, owners_on, chunks_among, part_text_of}
 use Rattle.pf_tables.specs.declared.fault.TableErr.{TableErr}
 use Rattle.pf_tables.specs.declared.fault.TableErr.TheVariants as fault
-use Rattle.pf_tables.proofs.Filled.{is_filled, filled-rest}
+use Rattle.pf_lex.proofs.Filled.{is_filled, filled-rest}
 
 -- the owners that were read, before those that are still to come
 abbrev pub after : List ℕ → Result (List ℕ) TableErr → Result (List ℕ) TableErr

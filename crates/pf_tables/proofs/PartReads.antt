@@ -1,11 +1,11 @@
 -- What is written of a partition is read again.
-use Rattle.std.proofs.Common.{◌≡◌, ℕ, ◌+◌, ◌-◌, ◌<◌, ◌≤◌, ◌^◌, Bool, true, List, [], ◌∷◌, length, refl, ap, ◌∙◌, arith}
-use Rattle.std.specs.Prelude.{Result, Ok, All, map, decimal, nat_le}
+use Rattle.std.proofs.Common.{◌≡◌, ℕ, ◌+◌, ◌-◌, ◌<◌, ◌≤◌, ◌^◌, true, List, [], ◌∷◌, length, refl, ◌∙◌, arith}
+use Rattle.std.specs.Prelude.{Ok, map, decimal, nat_le}
 use Rattle.std.specs.List.{AllByRecursion, list_all}
 use Rattle.std.proofs.lemmas.Bool.Decides.{nat_tests}
 use Rattle.std.proofs.lemmas.List.Elements.{recursion_from_All}
-use Rattle.pf_lex.specs.Text.{placed, text_lines, lines_past}
-use Rattle.pf_lex.specs.Written.{is_plain_row, is_plain_word, written_lines}
+use Rattle.pf_lex.specs.Text.{placed, lines_past}
+use Rattle.pf_lex.specs.Written.{is_plain_row, written_lines}
 use Rattle.pf_lex.proofs.Laws.{text_lines-text}
 use Rattle.pf_lex.proofs.NumberLaws.{natural_of-decimal, is_plain_word-decimal}
 use Rattle.pf_model.specs.declared.Tri.{Tri}

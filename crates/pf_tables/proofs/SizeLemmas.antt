@@ -1,15 +1,16 @@
 -- A size table that was read as far as some line: what the whole text says, by what was read and what is left.
-use Rattle.std.proofs.Common.{◌≡◌, ℕ, ◌+◌, ◌<◌, ◌≤◌, Bool, true, false, List, [], ◌∷◌, ◌++◌, length, refl, sym, ap, ◌∙◌, arith, append_assoc, length-append}
+use Rattle.std.proofs.Common.{◌≡◌, ℕ, ◌+◌, ◌<◌, ◌≤◌, true, false, List, [], ◌∷◌, ◌++◌, length, refl, ap, ◌∙◌, arith, append_assoc, length-append}
 use Rattle.std.specs.Prelude.{Result, Ok, Err}
 use Rattle.pf_lex.specs.Text.{TextLine}
 use Rattle.pf_model.specs.declared.Band.{Band}
 use Rattle.pf_model.specs.Conforming.{HasDefault}
-use Rattle.pf_tables.specs.Steps.{◌>>=◌, at_text_end}
+use Rattle.pf_lex.specs.Steps.{at_text_end}
+use Rattle.pf_tables.specs.Steps.{◌>>=◌}
 use Rattle.pf_tables.specs.Size.{is_default, default_on, row_on, bands_on}
 use Rattle.pf_tables.specs.Kept.{HoldsAll}
 use Rattle.pf_tables.specs.declared.fault.TableErr.{TableErr}
 use Rattle.pf_tables.specs.declared.fault.TableErr.TheVariants as fault
-use Rattle.pf_tables.proofs.Filled.{is_filled, filled-rest}
+use Rattle.pf_lex.proofs.Filled.{is_filled, filled-rest}
 
 -- the bands that were read, before those that are still to come
 abbrev pub after : List Band → Result (List Band) TableErr → Result (List Band) TableErr
@@ -40,7 +41,7 @@ unfolding bands_on
 row-line count line left row = rw row refl
 
 -- the default line
-default-line : (count : ℕ) (line : TextLine) (left : List TextLine) → is_default line.words ≡ true → bands_on count (line ∷ left) ≡ (default_on line.line line.words >>= (λ band. at_text_end left (band ∷ [])))
+default-line : (count : ℕ) (line : TextLine) (left : List TextLine) → is_default line.words ≡ true → bands_on count (line ∷ left) ≡ (default_on line.line line.words >>= (λ band. at_text_end fault.Extra left (band ∷ [])))
 unfolding bands_on
 default-line count line left is = rw is refl
 

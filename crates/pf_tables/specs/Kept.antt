@@ -1,5 +1,5 @@
 -- What the code keeps of the numbers of a size table: those that pass their test.
-use Rattle.std.specs.Prelude.{◌≡◌, ℕ, ℤ, true, pos, Bool, int_le, if◌then◌else◌, Result, Ok, Err, Option, Some, None, ◌&&◌}
+use Rattle.std.specs.Prelude.{◌≡◌, ℕ, ℤ, true, pos, Bool, int_le, if◌then◌else◌, Result, Err, Option, Some, None, ◌&&◌}
 use Rattle.std.specs.Result.{result_map_both}
 use Rattle.pf_geom.specs.declared.Point.{Point}
 use Rattle.pf_geom.specs.Plane.{IsInRange}

@@ -1,12 +1,13 @@
 -- The partition: what a text of it says, and the text that is written of a mesh's triangles.
-use Rattle.std.specs.Prelude.{ℕ, ◌+◌, Bool, nat_le, if◌then◌else◌, List, [], ◌∷◌, Result, Ok, Err, max, decimal, map}
+use Rattle.std.specs.Prelude.{ℕ, ◌+◌, nat_le, if◌then◌else◌, List, [], ◌∷◌, Result, Ok, Err, max, decimal, map}
 use Prim.Native.Nat.{zero, suc}
 use Rattle.std.specs.Result.{result_map_both}
 use Rattle.pf_lex.specs.Text.{Word, TextLine, text_lines, lines_past}
 use Rattle.pf_lex.specs.Number.{natural_of}
 use Rattle.pf_model.specs.declared.Tri.{Tri}
 use Rattle.pf_model.specs.Texts.{lines_text}
-use Rattle.pf_tables.specs.Steps.{◌>>=◌, at_line_end}
+use Rattle.pf_lex.specs.Steps.{at_line_end}
+use Rattle.pf_tables.specs.Steps.{◌>>=◌}
 use Rattle.pf_tables.specs.declared.fault.TableErr.{TableErr}
 use Rattle.pf_tables.specs.declared.fault.TableErr.TheVariants as fault
 
@@ -33,7 +34,7 @@ owner_on line [] = Err (fault.Short line)
 owner_on line (word ∷ others) = do
   number ← number_at line word
   owner ← chunk_at line number
-  at_line_end line others (Ok owner)
+  at_line_end (fault.Word line) others (Ok owner)
 
 -- the owners of so many triangles: one line for each, and no further line
 unfoldable pub owners_on : ℕ → ℕ → List TextLine → Result (List ℕ) TableErr

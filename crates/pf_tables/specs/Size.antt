@@ -5,7 +5,8 @@ use Rattle.pf_lex.specs.Text.{Word, TextLine, text_lines}
 use Rattle.pf_lex.specs.Number.{is_natural, natural_value, is_whole, whole_value}
 use Rattle.pf_geom.specs.declared.Point.{Point}
 use Rattle.pf_model.specs.declared.Band.{Band}
-use Rattle.pf_tables.specs.Steps.{◌>>=◌, refused, at_line_end, at_text_end}
+use Rattle.pf_lex.specs.Steps.{at_line_end, at_text_end}
+use Rattle.pf_tables.specs.Steps.{◌>>=◌, refused}
 use Rattle.pf_tables.specs.declared.size.Rectangle.{Rectangle}
 use Rattle.pf_tables.specs.declared.size.LengthRange.{LengthRange}
 use Rattle.pf_tables.specs.declared.fault.TableErr.{TableErr}
@@ -81,7 +82,7 @@ unfoldable pub row_on : ℕ → ℕ → List Word → Result Band TableErr
 row_on above line (xlo ∷ ylo ∷ xhi ∷ yhi ∷ min2 ∷ max2 ∷ others) = do
   rectangle ← rectangle_at line xlo ylo xhi yhi
   lengths ← length_range_at line min2 max2
-  at_line_end line others (band_where (is_rectangle rectangle && is_length_range lengths && nat_lt above rows_limit) line (band_of rectangle lengths))
+  at_line_end (fault.Word line) others (band_where (is_rectangle rectangle && is_length_range lengths && nat_lt above rows_limit) line (band_of rectangle lengths))
 row_on above line words = Err (fault.Short line)
 
 -- the rectangle that holds every point
@@ -92,7 +93,7 @@ everywhere = record { low = record { x = neg_ℤ (pos corner_limit); y = neg_ℤ
 unfoldable pub default_on : ℕ → List Word → Result Band TableErr
 default_on line (name ∷ min2 ∷ max2 ∷ others) = do
   lengths ← length_range_at line min2 max2
-  at_line_end line others (band_where (is_length_range lengths) line (band_of everywhere lengths))
+  at_line_end (fault.Word line) others (band_where (is_length_range lengths) line (band_of everywhere lengths))
 default_on line words = Err (fault.Short line)
 
 -- the line is the default line
@@ -107,7 +108,7 @@ bands_on above (line ∷ lines) =
     if is_default line.words
     then (do
       band ← default_on line.line line.words
-      at_text_end lines (band ∷ []))
+      at_text_end fault.Extra lines (band ∷ []))
     else (do
       band ← row_on above line.line line.words
       bands ← bands_on (above + 1) lines

@@ -1,6 +1,6 @@
 -- What both tables are read by: one step after another, each of which gives a value or the text's first fault.
-use Rattle.std.specs.Prelude.{ℕ, Bool, if◌then◌else◌, List, [], ◌∷◌, Result, Ok, Err}
-use Rattle.pf_lex.specs.Text.{Word, TextLine}
+use Rattle.std.specs.Prelude.{ℕ, Result, Ok, Err}
+use Rattle.pf_lex.specs.Text.{Word}
 use Rattle.pf_tables.specs.declared.fault.TableErr.{TableErr}
 use Rattle.pf_tables.specs.declared.fault.TableErr.TheVariants as fault
 
@@ -13,13 +13,3 @@ Err e >>= next = Err e
 -- the word is refused
 abbrev pub refused : {A : Type 0} → ℕ → Word → Result A TableErr
 refused line word = Err (fault.Word line word.column)
-
--- the value of a line that has no further word
-abbrev pub at_line_end : {A : Type 0} → ℕ → List Word → Result A TableErr → Result A TableErr
-at_line_end line [] value = value
-at_line_end line (word ∷ others) value = refused line word
-
--- the value of a text that has no further line
-abbrev pub at_text_end : {A : Type 0} → List TextLine → A → Result A TableErr
-at_text_end [] value = Ok value
-at_text_end (line ∷ lines) value = Err (fault.Extra line.line)

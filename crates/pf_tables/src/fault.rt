@@ -1,7 +1,8 @@
 //! Why a table is refused.
 ghost use Rattle.std.specs.Prelude.{◌≡◌};
-ghost use Rattle.pf_tables.specs.declared.fault.TableErr.TheVariants.{Memory};
+ghost use Rattle.pf_tables.specs.declared.fault.TableErr.TheVariants.{Memory, Word};
 
+use pf_lex::WordFault;
 use std::alloc::AllocFailed;
 use thiserror::Error;
 
@@ -32,6 +33,14 @@ pub enum TableErr {
     /// Memory ran out. Nothing else makes a call answer it.
     #[error("out of memory")]
     Memory,
+}
+
+impl WordFault for TableErr {
+    ghost word_refused = { Word };
+
+    fn at(line: u32, column: u32) -> TableErr {
+        TableErr::Word { line, column }
+    }
 }
 
 impl<T: Drop> From<AllocFailed<T>> for TableErr {

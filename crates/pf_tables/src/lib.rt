@@ -9,7 +9,6 @@ mod fault;
 mod laws;
 mod part;
 mod size;
-mod step;
 
 pub use fault::TableErr;
 pub use laws::part_reads_again;

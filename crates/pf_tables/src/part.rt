@@ -5,10 +5,9 @@ ghost use Rattle.pf_model.specs.Texts.{line_text};
 ghost use Rattle.pf_tables.specs.Part.{owner_on, part_of, part_text_of};
 
 use crate::fault::TableErr;
-use crate::step::{end_line, line_of, refused};
 use itoa::Buffer;
 use pf_geom::NoMemory;
-use pf_lex::{Lines, Words, natural};
+use pf_lex::{Lines, Words, end_line, natural, refused};
 use pf_mesh::{Mesh, Tri};
 use std::alloc::Global;
 use std::marker::Model;
@@ -49,9 +48,7 @@ pub fn read_part(alloc: Global, bytes: &[u8], triangles: u32) -> Result<Parts, T
     let mut chunks: u16 = 1;
     while let Some(words) = lines.next_line() {
         if owners.len() >= triangles as usize {
-            return Err(TableErr::Extra {
-                line: line_of(words),
-            });
+            return Err(TableErr::Extra { line: words.line() });
         }
         let owner = owner(words)?;
         owners.push(owner)?;
@@ -82,7 +79,7 @@ fn owner(mut words: Words<'_>) -> Result<u16, TableErr>
             found: number,
         });
     }
-    end_line(word.line, words)?;
+    end_line::<TableErr>(word.line, words)?;
     Ok(number as u16)
 }
 

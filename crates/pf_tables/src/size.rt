@@ -7,9 +7,8 @@ ghost use Rattle.pf_tables.specs.Kept.{HoldsAll, kept_in, is_length, both, corne
 ghost use Rattle.pf_tables.specs.RowWords.{row_words};
 
 use crate::fault::TableErr;
-use crate::step::{end_line, is_word, line_of, refused};
 use pf_geom::Point;
-use pf_lex::{Lines, NumFault, Token, Words, natural, whole};
+use pf_lex::{Lines, NumFault, Token, Words, end_line, is_word, natural, refused, whole};
 use pf_model::Band;
 use std::alloc::Global;
 
@@ -54,9 +53,7 @@ pub fn read_size(alloc: Global, bytes: &[u8]) -> Result<Vec<Band>, TableErr>
             let band = default_line(first, words)?;
             bands.push(band)?;
             if let Some(words) = lines.next_line() {
-                return Err(TableErr::Extra {
-                    line: line_of(words),
-                });
+                return Err(TableErr::Extra { line: words.line() });
             }
             return Ok(bands);
         }
@@ -123,7 +120,7 @@ fn row_of(line: u32, row: RowWords<'_>, others: Words<'_>, above: usize) -> Resu
 {
     let rectangle = rectangle_of(line, row)?;
     let lengths = length_range_of(line, row.min2, row.max2)?;
-    end_line(line, others)?;
+    end_line::<TableErr>(line, others)?;
     band(line, rectangle, lengths, above < ROWS_LIMIT)
 }
 
@@ -138,7 +135,7 @@ fn default_line(name: Token<'_>, mut words: Words<'_>) -> Result<Band, TableErr>
     let min2 = words.next().ok_or(short)?;
     let max2 = words.next().ok_or(short)?;
     let lengths = length_range_of(line, min2, max2)?;
-    end_line(line, words)?;
+    end_line::<TableErr>(line, words)?;
     band(line, Some(EVERYWHERE), lengths, true)
 }
 

@@ -1,4 +1,4 @@
-use Rattle.std.proofs.Common.{◌≡◌, ◌≢◌, Err, ◌∙◌, ap, refl, Ok}
+use Rattle.std.proofs.Common.{◌≡◌, ◌≢◌, Err, ◌∙◌, ap, refl, Ok, arith}
 use Rattle.std.proofs.lemmas.Result.{err_from_is_err_and}
 use Rattle.pf_shelf.specs.Files.{held}
 use Rattle.pf_model.specs.declared.BuildErr.TheVariants.{Memory}
@@ -6,7 +6,7 @@ use Rattle.pf_model.specs.Build.{built}
 use Rattle.tri_files.specs.Node.{vertices_of}
 use Rattle.pf_cmd.specs.Shown.{stems_of}
 use Rattle.pf_cmd.specs.Input.{◌>>=◌, triangles_in, build_accepted, mesh_in}
-use Rattle.pf_cmd.proofs.BuiltFresh.{built-fresh}
+use Rattle.pf_model.proofs.BuiltFresh.{built-fresh}
 use Rattle.pf_cmd.proofs.Reading.{explains-then, explains-next, explains-later, reads-later, build_stop-explains}
 use Rattle.pf_cmd.proofs.input.read_mesh.Goals as goal
 
@@ -28,10 +28,10 @@ returns-in_err-triangles-clause-stop g c =
 pub returns-in-Ok-clause-mesh : goal.returns-in-Ok-clause-mesh
 unfolding mesh_in
 returns-in-Ok-clause-mesh g c = λ tells.
-    ap (λ r. r >>= (λ vertices. triangles_in (held (g.S.Shelf.told c.args.shelf.now)) (stems_of c.args.stems) vertices >>= (λ triangles. build_accepted (built vertices.points triangles) >>= (λ mesh. Ok record { base = vertices.base; mesh = mesh })))) (c.in_ok-nodes.ensures.vertices tells)
-    ∙ (ap (λ r. r >>= (λ triangles. build_accepted (built c.in_ok-nodes.nodes.points.items triangles) >>= (λ mesh. Ok record { base = c.in_ok-nodes.nodes.base; mesh = mesh })))
+    ap (λ r. r >>= (λ vertices. triangles_in (held (g.S.Shelf.told c.args.shelf.now)) (stems_of c.args.stems) vertices >>= (λ triangles. build_accepted (built vertices.points triangles) >>= (λ mesh. Ok record { base = vertices.base; mesh = mesh; triangles = triangles })))) (c.in_ok-nodes.ensures.vertices tells)
+    ∙ (ap (λ r. r >>= (λ triangles. build_accepted (built c.in_ok-nodes.nodes.points.items triangles) >>= (λ mesh. Ok record { base = c.in_ok-nodes.nodes.base; mesh = mesh; triangles = triangles })))
     (reads-later _ _ (λ look. triangles_in look (stems_of c.args.stems) (vertices_of c.in_ok-nodes.nodes)) _ c.in_ok-nodes.ensures.only_read c.in_ok-triangles.ensures.triangles tells)
-    ∙ ap (λ r. build_accepted r >>= (λ mesh. Ok record { base = c.in_ok-nodes.nodes.base; mesh = mesh })) made)
+    ∙ ap (λ r. build_accepted r >>= (λ mesh. Ok record { base = c.in_ok-nodes.nodes.base; mesh = mesh; triangles = c.in_ok-triangles.triangles.items })) made)
   where
     made : built c.in_ok-nodes.nodes.points.items c.in_ok-triangles.triangles.items ≡ Ok c.in-Ok.mesh
     made = rw (← c.deref.ensures.value, ← c.deref-2.ensures.value) c.in-Ok.ensures.ok
@@ -49,4 +49,4 @@ returns-clause-stop g c =
     refused = rw (← c.deref.ensures.value, ← c.deref-2.ensures.value) (λ ne. c.in-Err.ensures.fault c.in-Err.fault refl ne)
 
 pub returns-in-Ok-clause-fresh : goal.returns-in-Ok-clause-fresh
-returns-in-Ok-clause-fresh g c = built-fresh c.deref.result.now c.deref-2.result.now c.in-Ok.mesh c.in-Ok.ensures.ok
+returns-in-Ok-clause-fresh g c = λ n live. let b = built-fresh c.deref.result.now c.deref-2.result.now c.in-Ok.mesh c.in-Ok.ensures.ok n live in omega (arith, b)

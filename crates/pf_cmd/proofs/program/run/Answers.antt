@@ -1,4 +1,4 @@
-use Rattle.pf_cmd.proofs.RunFacts.{run-done, run-words_only, run-words_always, run-unread, run-missing, run-unwritten, run-refused, run-as_before, run-one_line, run-line_at_4}
+use Rattle.pf_cmd.proofs.RunFacts.{run-done, run-words_only, run-words_always, run-unread, run-missing, run-unwritten, run-refused, run-as_before, run-unfinished, run-complete, run-one_line, run-line_at_4}
 use Rattle.pf_cmd.proofs.program.run.Goals as goal
 
 pub returns-clause-done : goal.returns-clause-done
@@ -21,6 +21,12 @@ returns-clause-unwritten g c = run-unwritten _ _ _ _ _ _ c.ran.ensures.runs
 
 pub returns-clause-refused : goal.returns-clause-refused
 returns-clause-refused g c = run-refused _ _ _ _ _ _ c.ran.ensures.runs
+
+pub returns-clause-unfinished : goal.returns-clause-unfinished
+returns-clause-unfinished g c = run-unfinished _ _ _ _ _ _ c.ran.ensures.runs
+
+pub returns-clause-complete : goal.returns-clause-complete
+returns-clause-complete g c = run-complete _ _ _ _ _ _ c.ran.ensures.runs
 
 pub returns-clause-as_before : goal.returns-clause-as_before
 returns-clause-as_before g c = run-as_before _ _ _ _ _ _ c.ran.ensures.runs

@@ -3,7 +3,7 @@ use Rattle.std.proofs.lemmas.Result.{err_from_is_err_and}
 use Rattle.pf_lex.specs.Text.{text_lines, lines_past}
 use Rattle.pf_lex.specs.Token.{word_of}
 use Rattle.pf_journal.specs.Journal.{is_end, end_on, entry_on}
-use Rattle.pf_journal.proofs.Filled.{is_filled, text_lines-filled, filled-rest}
+use Rattle.pf_lex.proofs.Filled.{is_filled, text_lines-filled, filled-rest}
 use Rattle.pf_journal.proofs.ReadLemmas.{IsReadTo, length-text_lines, journal_of-empty, journal_of-headless, journal_of-entries, read_to-none, read_to-more, read_to-refused, read_to-end_refused, read_to-extra, read_to-end, read_to-short}
 use Rattle.pf_journal.proofs.read.read_journal.Goals as goal
 
@@ -50,7 +50,7 @@ returns-in-Some-next_line-2-clause-first_fault c =
     let h : IsReadTo (lines_past c.args.bytes.now) c.next_line.new.self.left (c.in-Some-next_line.words ∷ c.in-Some-next_line-2.words ∷ c.next_line-then-is_word.new.self.left) c.loop-words.entries.items (vec_len c.loop-words.entries) = rw c.in-Some-next_line-2.ensures.first at (rw c.in-Some-next_line.ensures.first at c.loop-words.invariant.read) in
     let is : end_on (vec_len c.loop-words.entries) c.in-Some-next_line.words.line c.in-Some-next_line.words.words ≡ Ok c.in_ok-end_count.field-0 = rw (words, ← line, ← c.len-due.ensures) (sym c.in_ok-end_count.ensures) in
     let e = read_to-extra _ _ _ _ _ _ _ _ h end is in
-    λ _. rw c.line_of.ensures (journal ∙ e)
+    λ _. rw c.line.ensures (journal ∙ e)
 
 pub returns-then-is_word-clause-value : goal.returns-then-is_word-clause-value
 returns-then-is_word-clause-value c =

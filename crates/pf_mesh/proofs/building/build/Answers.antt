@@ -6,6 +6,7 @@ use Rattle.pf_mesh.specs.Exchange.{AreSound}
 use Rattle.pf_mesh.specs.Mesh.{IsKept}
 use Rattle.pf_mesh.specs.BuildSteps.{live_sites}
 use Rattle.pf_mesh.proofs.BuildKept.{part-listed, built-kept, built-ok, parts-built}
+use Rattle.pf_mesh.proofs.BuiltListed.{built-listed}
 use Rattle.pf_mesh.proofs.building.build.Goals as goal
 
 pub sort_listed-requires : goal.sort_listed-requires
@@ -37,3 +38,6 @@ returns-clause-ok c =
     let same = parts-built sides nodes points tris c.in-Ok-list_sites.sites.items c.sort_listed.new.listed.items c.in-Ok-default_bands.bands.items k
     (c.in-Ok-list_sites.ensures ∙ ap (live_sites 0) c.deref.ensures.value) (c.sort_listed.ensures ∙ ap (sorted_by tri_lt) e.entered.listed) c.in-Ok-default_bands.ensures in
     built-ok points tris e.ok ∙ ap (λ m. Ok m) (sym same ∙ sym c.of_kept.ensures)
+
+pub returns-clause-listed : goal.returns-clause-listed
+returns-clause-listed c = built-listed c.args.points.now c.args.tris.now c.of_kept.result (returns-clause-ok c)

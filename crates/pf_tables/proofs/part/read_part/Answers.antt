@@ -1,9 +1,8 @@
-use Rattle.std.proofs.Common.{rules, ◌≡◌, ℕ, ◌+◌, ◌≤◌, sym, ap, ◌∙◌, refl, Ok, Err, arith, true, max, ◌∷◌, [], vec_len, ◌<◌}
+use Rattle.std.proofs.Common.{◌≡◌, ◌+◌, ◌≤◌, sym, ◌∙◌, refl, Ok, Err, arith, max, ◌∷◌, [], vec_len, ◌<◌}
 use Rattle.std.proofs.lemmas.Result.{err_from_is_err_and}
-use Rattle.std.proofs.lemmas.Grind.{common_steps}
 use Rattle.pf_lex.specs.Text.{text_lines, lines_past}
-use Rattle.pf_tables.specs.Part.{part_of, owners_on, owner_on}
-use Rattle.pf_tables.proofs.Filled.{text_lines-filled, filled-first}
+use Rattle.pf_tables.specs.Part.{part_of, owner_on}
+use Rattle.pf_lex.proofs.Filled.{text_lines-filled}
 use Rattle.pf_tables.proofs.PartLemmas.{IsReadTo, read_to-none, read_to-more, read_to-refused, read_to-extra, read_to-short, read_to-end, chunks_among-above, chunks_among-some}
 use Rattle.pf_tables.proofs.part.read_part.Goals as goal
 
@@ -35,7 +34,7 @@ returns-then-len-triangles-clause-first_fault c =
     let h : IsReadTo (lines_past c.args.bytes.now) c.args.triangles (text_lines c.args.bytes.now) (c.in-Some.words ∷ c.next_line.new.self.left) c.loop-words.owners.items (vec_len c.loop-words.owners) c.loop-words.chunks = rw c.in-Some.ensures.first at c.loop-words.invariant.read in
     let none : c.args.triangles ≤ vec_len c.loop-words.owners = omega arith in
     let e = read_to-extra _ _ _ _ _ _ _ _ h none in
-    rw (e, c.line_of.ensures) refl
+    rw (e, c.line.ensures) refl
 
 pub returns-in_err-owner-clause-first_fault : goal.returns-in_err-owner-clause-first_fault
 unfolding part_of

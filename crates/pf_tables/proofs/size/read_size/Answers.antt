@@ -1,10 +1,9 @@
-use Rattle.std.proofs.Common.{◌≡◌, ◌∷◌, [], ◌∙◌, sym, ap, Ok, Err, true, false, codes, vec_len, ◌<◌}
-use Rattle.std.specs.Str.{bytes_eq}
+use Rattle.std.proofs.Common.{◌≡◌, ◌∷◌, [], ◌∙◌, sym, ap, Ok, Err, true, false, vec_len, ◌<◌}
 use Rattle.std.proofs.lemmas.Result.{err_from_is_err_and}
 use Rattle.pf_lex.specs.Text.{text_lines}
 use Rattle.pf_lex.specs.Token.{word_of}
 use Rattle.pf_tables.specs.Size.{size_of, is_default, row_on, default_on}
-use Rattle.pf_tables.proofs.Filled.{text_lines-filled}
+use Rattle.pf_lex.proofs.Filled.{text_lines-filled}
 use Rattle.pf_tables.proofs.SizeLemmas.{IsReadTo, read_to-none, read_to-more, read_to-refused, read_to-default_refused, read_to-extra, read_to-end, read_to-no_default, has_default-append}
 use Rattle.pf_tables.proofs.size.read_size.Goals as goal
 
@@ -44,7 +43,7 @@ returns-in-Some-next_line-clause-first_fault c =
     let is : default_on c.in-Some.words.line c.in-Some.words.words ≡ Ok c.in_ok-band.band = rw (words, ← line) (sym c.in_ok-band.ensures.value) in
     let h : IsReadTo (text_lines c.args.bytes.now) (c.in-Some.words ∷ c.in-Some-next_line.words ∷ c.next_line-then-is_word.new.self.left) c.loop-words.bands.items (vec_len c.loop-words.bands) = rw c.in-Some-next_line.ensures.first at (rw c.in-Some.ensures.first at c.loop-words.invariant) in
     let e = read_to-extra _ _ _ _ _ _ _ h default is in
-    λ _. rw c.line_of.ensures e
+    λ _. rw c.line.ensures e
 
 pub returns-then-is_word-clause-value : goal.returns-then-is_word-clause-value
 unfolding size_of

@@ -1,0 +1,51 @@
+// The check of a mesh.
+ghost use Rattle.std.specs.Prelude.{◌≡◌, [], ◌∷◌, ◌++◌, IfOk, IfErr, OnOk, codes, decimal, length};
+ghost use Rattle.std.specs.Fmt.{signed_decimal};
+ghost use Rattle.pf_model.specs.Sums.{euler_of, boundary_of};
+ghost use Rattle.pf_model.specs.Texts.{line_text, check_report};
+
+use crate::output::{put_line, put_mesh};
+use crate::stop::Stop;
+use pf_forms::{boundary, euler};
+use pf_mesh::Mesh;
+use std::alloc::{AllocError, Global};
+
+/// The report of a check: what the mesh has, and how many chunks.
+pub(crate) fn check_text(alloc: Global, mesh: &Mesh, chunks: u16) -> Result<Vec<u8>, Stop>
+    ensures memory { IfErr result (λ stop. stop ≡ Stop.Memory) }
+    ensures text { IfOk result (λ text. text.items ≡ check_report chunks mesh.now) }
+{
+    let mut text = Vec::new(alloc);
+    put_mesh(&mut text, mesh)?;
+    put_euler(alloc, &mut text, mesh)?;
+    put_boundary(alloc, &mut text, mesh)?;
+    put_chunks(&mut text, chunks)?;
+    Ok(text)
+}
+
+// Puts the Euler number.
+fn put_euler(alloc: Global, text: &mut Vec<u8>, mesh: &Mesh) -> Result<(), Stop>
+    ensures memory { IfErr result (λ stop. stop ≡ Stop.Memory) }
+    ensures text { OnOk result (text.new.items ≡ text.old.items ++ line_text (codes "euler" ∷ signed_decimal (euler_of mesh.now) ∷ [])) }
+{
+    let number = euler(alloc, mesh)?;
+    put_line(text, b"euler ", number)?;
+    Ok(())
+}
+
+// Puts how many boundary edges there are.
+fn put_boundary(alloc: Global, text: &mut Vec<u8>, mesh: &Mesh) -> Result<(), Stop>
+    ensures memory { IfErr result (λ stop. stop ≡ Stop.Memory) }
+    ensures text { OnOk result (text.new.items ≡ text.old.items ++ line_text (codes "boundary" ∷ decimal (length (boundary_of mesh.now)) ∷ [])) }
+{
+    let edges = boundary(alloc, mesh)?;
+    put_line(text, b"boundary ", edges.len())?;
+    Ok(())
+}
+
+// Puts how many chunks there are.
+fn put_chunks(text: &mut Vec<u8>, chunks: u16) -> Result<(), AllocError>
+    ensures { OnOk result (text.new.items ≡ text.old.items ++ line_text (codes "chunks" ∷ decimal chunks ∷ [])) }
+{
+    put_line(text, b"chunks ", chunks)
+}

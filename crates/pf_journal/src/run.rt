@@ -1,0 +1,60 @@
+//! The replay of a journal on a mesh.
+ghost use Rattle.std.specs.Prelude.{◌≡◌, ◌≢◌, ℕ, ◌+◌, ◌<◌, ◌≤◌, Some, None, length, OnOk, IfErr};
+ghost use Rattle.pf_model.specs.Conforming.{IsLive, IsConforming};
+ghost use Rattle.pf_model.specs.Replay.{replayed};
+ghost use Rattle.pf_model.specs.Sums.{area2_of};
+ghost use Rattle.pf_journal.specs.Entries.{HasTickets};
+ghost use Rattle.pf_journal.specs.declared.run.ReplayErr.TheVariants.{Memory};
+ghost use Rattle.pf_journal.specs.Replay.{refusal, first_refusal, IsReplayedBefore};
+
+use pf_mesh::{ApplyErr, Cond, Entry, Mesh, RunErr};
+use thiserror::Error;
+
+/// Why a journal isn't replayed to its end.
+#[derive(Clone, Copy, Debug, PartialEq, Eq, Error)]
+pub enum ReplayErr {
+    /// The entry with this ticket fails this condition, once those before it are applied.
+    #[error("ticket {ticket}: the operation fails a condition")]
+    At { ticket: u32, cond: Cond },
+    /// The entry with this ticket names a node that isn't live, once those before it are applied.
+    #[error("ticket {ticket}: node {node} isn't live")]
+    Gone { ticket: u32, node: u32 },
+    /// Memory ran out. Nothing else makes a call answer it.
+    #[error("out of memory")]
+    Memory,
+}
+
+// Where a run stops, as why a journal isn't replayed.
+fn refusal_of(stop: RunErr) -> ReplayErr
+    ensures { result ≡ refusal stop.ticket stop.fault }
+{
+    let ticket = stop.ticket;
+    match stop.fault {
+        ApplyErr::Refused { cond } => ReplayErr::At { ticket, cond },
+        ApplyErr::Gone { node } => ReplayErr::Gone { ticket, node },
+        ApplyErr::Memory => ReplayErr::Memory,
+    }
+}
+
+/// Applies the entries of a journal to a mesh one after another, up to the first that is refused.
+///
+/// `At` and `Gone` name the first entry that `apply` refuses after those before it. After an error the
+/// mesh is the replay of the entries before the one that failed.
+pub fn replay(mesh: &mut Mesh, entries: &[Entry]) -> Result<(), ReplayErr>
+    requires fresh { (n : ℕ) → IsLive mesh.old n → n < mesh.old.first_new }
+    requires tickets { HasTickets entries.now }
+    requires limit { mesh.old.first_new + length entries.now ≤ 1048576 }
+    ensures replayed { OnOk result (mesh.new ≡ replayed mesh.old entries.now) }
+    ensures passed { OnOk result (first_refusal mesh.old entries.now ≡ None) }
+    ensures refused { IfErr result (λ err. err ≢ Memory → first_refusal mesh.old entries.now ≡ Some err) }
+    ensures before { IfErr result (λ err. IsReplayedBefore mesh.old mesh.new entries.now err) }
+
+    // A replay keeps the mesh conforming, and twice its area.
+    ensures conforming { IsConforming mesh.new }
+    ensures area { area2_of mesh.new ≡ area2_of mesh.old }
+{
+    match mesh.apply_all(entries) {
+        Ok(()) => Ok(()),
+        Err(stop) => Err(refusal_of(stop)),
+    }
+}

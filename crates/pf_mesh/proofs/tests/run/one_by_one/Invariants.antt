@@ -1,0 +1,10 @@
+use Rattle.std.proofs.Common.{◌≡◌, drop}
+use Rattle.pf_model.specs.Applied.{IsFresh}
+use Rattle.pf_mesh.specs.Run.{HasTicketsFrom}
+use Rattle.pf_mesh.proofs.tests.run.one_by_one.Given as goal
+
+abbrev pub invariant-loop-entry : goal.invariant-loop-entry
+invariant-loop-entry l =
+    (l.mesh.first_new ≡ l.fn.mesh.first_new)
+    × IsFresh l.mesh l.entry-index
+    × HasTicketsFrom l.entry-index (drop l.entry-index l.entries)

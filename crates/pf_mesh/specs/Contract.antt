@@ -1,0 +1,54 @@
+-- The conditions of a contraction that are asked of the star of the node that goes, and what the contraction makes of it.
+use Rattle.std.specs.Prelude.{ℕ, pos, List, [], ◌∷◌, Bool, not, ◌&&◌, ◌||◌, ◌==◌, Option, filter, map, min, max, unwrap_or}
+use Rattle.std.specs.Ordering.{int_eq}
+use Rattle.pf_model.specs.declared.Tri.{Tri}
+use Rattle.pf_model.specs.declared.Spoke.{Spoke}
+use Rattle.pf_model.specs.declared.Cond.{Cond}
+use Rattle.pf_model.specs.declared.Cond.TheVariants.{Corner, OffBoundary, LinkNode, TooLong}
+use Rattle.pf_model.specs.Clauses.{when, when_some}
+use Rattle.pf_model.specs.Mesh.{Undivided, side_of, tri_of, turn_at}
+use Rattle.pf_model.specs.Lengths.{is_long}
+use Rattle.pf_model.specs.Stars.{is_on_boundary, path_start, path_end, is_neighbour}
+use Rattle.pf_model.specs.Conditions.{neighbours, least_that, inverted, is_apex}
+
+-- the star's path bends at u
+abbrev pub is_corner : Undivided → ℕ → List Spoke → Bool
+is_corner m u us = is_on_boundary us && not (int_eq (turn_at m (unwrap_or (path_start us us) 0) u (unwrap_or (path_end us us) 0)) (pos 0))
+
+-- the star is a path, of which v is no end
+abbrev pub is_off_boundary : ℕ → List Spoke → Bool
+is_off_boundary v us = is_on_boundary us && not (unwrap_or (path_start us us) 0 == v || unwrap_or (path_end us us) 0 == v)
+
+-- x is a neighbour of v, and no apex of the edge u, v
+abbrev pub is_link_node : Undivided → ℕ → ℕ → List Spoke → ℕ → Bool
+is_link_node m u v vs x = is_neighbour x vs && not (is_apex x (side_of m.tris u v) || is_apex x (side_of m.tris v u))
+
+-- the edge v, x would be new, and is too long
+abbrev pub is_too_long : Undivided → ℕ → List Spoke → ℕ → Bool
+is_too_long m v vs x = not (x == v) && (not (is_neighbour x vs) && is_long m v x)
+
+-- the clauses of a contraction after those on the width and the fan of u
+abbrev pub star_clauses : Undivided → ℕ → ℕ → List Spoke → List Spoke → List (Option Cond)
+star_clauses m u v us vs =
+    when (is_corner m u us) Corner
+    ∷ when (is_off_boundary v us) OffBoundary
+    ∷ when_some (least_that (is_link_node m u v vs) (neighbours us)) (λ x. LinkNode x)
+    ∷ inverted m v us
+    ∷ when_some (least_that (is_too_long m v vs) (neighbours us)) (λ x. TooLong (min v x) (max v x))
+    ∷ []
+
+-- the triangle of a spoke of n
+abbrev pub tri_at : ℕ → Spoke → Tri
+tri_at n s = tri_of n s.right s.left s.owner
+
+-- the spoke is without v
+abbrev pub is_without : ℕ → Spoke → Bool
+is_without v s = not (s.right == v || s.left == v)
+
+-- the triangles of the star
+abbrev pub star_tris : ℕ → List Spoke → List Tri
+star_tris u us = map (tri_at u) us
+
+-- those without v, with v in the place of u
+abbrev pub moved_tris : ℕ → List Spoke → List Tri
+moved_tris v us = map (tri_at v) (filter (is_without v) us)

@@ -1,0 +1,155 @@
+//! A run of entries on the edge table alone. The lists of the mesh are made anew after it.
+ghost use Rattle.std.specs.Prelude.{◌≡◌, ℕ, ◌+◌, ◌<◌, ◌≤◌, List, [], take, length, vec_capacity, OnOk, IfErr};
+ghost use Rattle.pf_model.specs.declared.Tri.{Tri};
+ghost use Rattle.pf_model.specs.Mesh.{Undivided};
+ghost use Rattle.pf_model.specs.Conforming.{IsConforming};
+ghost use Rattle.pf_model.specs.Ends.{gone_end};
+ghost use Rattle.pf_model.specs.Applied.{applied};
+ghost use Rattle.pf_model.specs.Replay.{replayed};
+ghost use Rattle.pf_mesh.specs.Table.{AreInRange, ShowsTriangles, Shows};
+ghost use Rattle.pf_mesh.specs.Run.{HasTickets, fault_of, ArePassed, IsSaid, IsStopped, IsReached, HasReached};
+
+use crate::mesh::{ApplyErr, ends};
+use crate::table::EdgeTable;
+use pf_geom::NoMemory;
+use pf_model::{Band, Entry, Op, Site, Tri};
+use thiserror::Error;
+
+/// Where a run of entries stops, and why the entry with this ticket isn't applied.
+#[derive(Clone, Copy, Debug, PartialEq, Eq, Error)]
+#[error("the entry with the ticket {ticket} isn't applied")]
+pub struct RunErr {
+    pub ticket: u32,
+    pub fault: ApplyErr,
+}
+
+// The first end of an operation that isn't live.
+fn gone_node(table: &EdgeTable, op: Op) -> Option<u32>
+    ensures { (m : Undivided) → Shows table.now.sides table.now.nodes.items m → result ≡ gone_end m op }
+{
+    let (first, second) = ends(op);
+    if table.site(first).is_none() {
+        return Some(first);
+    }
+    if table.site(second).is_none() {
+        return Some(second);
+    }
+    None
+}
+
+// Why an entry isn't applied, or `None` where it passes.
+fn entry_fault(table: &EdgeTable, bands: &[Band], entry: &Entry) -> Option<ApplyErr>
+    requires { AreInRange table.now.nodes.items }
+    ensures { (m : Undivided) → IsConforming m → Shows table.now.sides table.now.nodes.items m → m.bands ≡ bands.now → result ≡ fault_of m entry.now }
+{
+    if let Some(node) = gone_node(table, entry.op) {
+        return Some(ApplyErr::Gone { node });
+    }
+    match table.condition(bands, entry.chunk, entry.op) {
+        Some(cond) => Some(ApplyErr::Refused { cond }),
+        None => None,
+    }
+}
+
+// Makes room in the empty lists for nodes with names up to `last`, and for the triangles after one
+// operation more.
+fn make_room(
+    table: &EdgeTable,
+    last: u32,
+    sites: &mut Vec<Site>,
+    tris: &mut Vec<Tri>,
+) -> Result<(), NoMemory>
+    requires no_sites { sites.old.items ≡ [] }
+    requires no_tris { tris.old.items ≡ [] }
+    ensures no_sites { sites.new.items ≡ [] }
+    ensures no_tris { tris.new.items ≡ [] }
+    ensures sites_stay { vec_capacity sites.old ≤ vec_capacity sites.new }
+    ensures tris_stay { vec_capacity tris.old ≤ vec_capacity tris.new }
+    ensures sites_fit { OnOk result (last + 1 ≤ vec_capacity sites.new) }
+    ensures tris_fit { OnOk result ((ts : List Tri) → ShowsTriangles table.now.sides table.now.nodes.items ts → length ts + 60 ≤ vec_capacity tris.new) }
+{
+    if sites.reserve(last as usize + 1).is_err() {
+        return Err(NoMemory);
+    }
+    if tris.reserve(table.sides.len() / 3 + 60).is_err() {
+        return Err(NoMemory);
+    }
+    Ok(())
+}
+
+// Performs an entry that passes, once there is room to list the mesh after it. After an error the table
+// shows the mesh that it showed before.
+fn step(
+    table: &mut EdgeTable,
+    sites: &mut Vec<Site>,
+    tris: &mut Vec<Tri>,
+    bands: &[Band],
+    first_new: u32,
+    entry: &Entry,
+) -> Result<(), ApplyErr>
+    requires reached { HasReached table.old.sides table.old.nodes.items bands.now first_new entry.now.ticket (vec_capacity sites.old) (vec_capacity tris.old) }
+    requires named { first_new + entry.now.ticket < 1048576 }
+    requires no_sites { sites.old.items ≡ [] }
+    requires no_tris { tris.old.items ≡ [] }
+    ensures no_sites { sites.new.items ≡ [] }
+    ensures no_tris { tris.new.items ≡ [] }
+    ensures applied { OnOk result ((m : Undivided)
+        → IsReached table.old.sides table.old.nodes.items bands.now first_new entry.now.ticket (vec_capacity sites.old) (vec_capacity tris.old) m
+        → (fault_of m entry.now ≡ None)
+        × IsReached table.new.sides table.new.nodes.items bands.now first_new (entry.now.ticket + 1) (vec_capacity sites.new) (vec_capacity tris.new) (applied m entry.now)) }
+    ensures stopped { IfErr result (λ fault. (m : Undivided)
+        → IsReached table.old.sides table.old.nodes.items bands.now first_new entry.now.ticket (vec_capacity sites.old) (vec_capacity tris.old) m
+        → IsSaid m entry.now fault
+        × IsReached table.new.sides table.new.nodes.items bands.now first_new entry.now.ticket (vec_capacity sites.new) (vec_capacity tris.new) m) }
+{
+    if let Some(fault) = entry_fault(table, bands, entry) {
+        return Err(fault);
+    }
+    let name = first_new + entry.ticket;
+    match make_room(table, name, sites, tris) {
+        Ok(()) => {}
+        Err(NoMemory) => return Err(ApplyErr::Memory),
+    }
+    match table.apply(name, entry.op) {
+        Ok(_change) => Ok(()),
+        Err(NoMemory) => Err(ApplyErr::Memory),
+    }
+}
+
+/// Performs the entries on the table one after another, up to the first that isn't applied. The lists
+/// are empty, and get room for what the table shows at the end.
+pub fn run(
+    table: &mut EdgeTable,
+    sites: &mut Vec<Site>,
+    tris: &mut Vec<Tri>,
+    bands: &[Band],
+    first_new: u32,
+    entries: &[Entry],
+) -> Result<(), RunErr>
+    requires reached { HasReached table.old.sides table.old.nodes.items bands.now first_new 0 (vec_capacity sites.old) (vec_capacity tris.old) }
+    requires tickets { HasTickets entries.now }
+    requires named { first_new + length entries.now ≤ 1048576 }
+    requires no_sites { sites.old.items ≡ [] }
+    requires no_tris { tris.old.items ≡ [] }
+    ensures applied { OnOk result ((m : Undivided)
+        → IsReached table.old.sides table.old.nodes.items bands.now first_new 0 (vec_capacity sites.old) (vec_capacity tris.old) m
+        → ArePassed m entries.now
+        × IsReached table.new.sides table.new.nodes.items bands.now first_new (length entries.now) (vec_capacity sites.new) (vec_capacity tris.new) (replayed m entries.now)) }
+    ensures stopped { IfErr result (λ stop. (m : Undivided)
+        → IsReached table.old.sides table.old.nodes.items bands.now first_new 0 (vec_capacity sites.old) (vec_capacity tris.old) m
+        → IsStopped m entries.now stop.ticket stop.fault
+        × IsReached table.new.sides table.new.nodes.items bands.now first_new stop.ticket (vec_capacity sites.new) (vec_capacity tris.new) (replayed m (take stop.ticket entries.now))) }
+{
+    for entry in entries {
+        match step(table, sites, tris, bands, first_new, entry) {
+            Ok(()) => {}
+            Err(fault) => {
+                return Err(RunErr {
+                    ticket: entry.ticket,
+                    fault,
+                });
+            }
+        }
+    }
+    Ok(())
+}
