@@ -5,3 +5,4 @@ pub mod OutputLemmas
 pub mod CutFiles
 pub mod RunFacts
 pub mod Said
+pub mod RestLemmas

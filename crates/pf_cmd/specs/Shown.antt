@@ -18,4 +18,4 @@ shown (Check base scale) = check base.now scale
 
 -- a mesh as it is listed with its chunks, as what it says
 abbrev pub parted_of : CodedParted → Parted
-parted_of read = record { listed = record { base = read.listed.base; mesh = read.listed.mesh; triangles = read.listed.triangles.items }; parts = read.parts }
+parted_of read = record { listed = record { base = read.listed.base; mesh = read.listed.mesh.mesh; triangles = read.listed.triangles.items }; parts = read.parts }

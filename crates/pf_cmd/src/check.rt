@@ -13,7 +13,7 @@ use std::alloc::{AllocError, Global};
 /// The report of a check: what the mesh has, and how many chunks.
 pub(crate) fn check_text(alloc: Global, mesh: &Mesh, chunks: u16) -> Result<Vec<u8>, Stop>
     ensures memory { IfErr result (λ stop. stop ≡ Stop.Memory) }
-    ensures text { IfOk result (λ text. text.items ≡ check_report chunks mesh.now) }
+    ensures text { IfOk result (λ text. text.items ≡ check_report chunks mesh.now.mesh) }
 {
     let mut text = Vec::new(alloc);
     put_mesh(&mut text, mesh)?;
@@ -26,7 +26,7 @@ pub(crate) fn check_text(alloc: Global, mesh: &Mesh, chunks: u16) -> Result<Vec<
 // Puts the Euler number.
 fn put_euler(alloc: Global, text: &mut Vec<u8>, mesh: &Mesh) -> Result<(), Stop>
     ensures memory { IfErr result (λ stop. stop ≡ Stop.Memory) }
-    ensures text { OnOk result (text.new.items ≡ text.old.items ++ line_text (codes "euler" ∷ signed_decimal (euler_of mesh.now) ∷ [])) }
+    ensures text { OnOk result (text.new.items ≡ text.old.items ++ line_text (codes "euler" ∷ signed_decimal (euler_of mesh.now.mesh) ∷ [])) }
 {
     let number = euler(alloc, mesh)?;
     put_line(text, b"euler ", number)?;
@@ -36,7 +36,7 @@ fn put_euler(alloc: Global, text: &mut Vec<u8>, mesh: &Mesh) -> Result<(), Stop>
 // Puts how many boundary edges there are.
 fn put_boundary(alloc: Global, text: &mut Vec<u8>, mesh: &Mesh) -> Result<(), Stop>
     ensures memory { IfErr result (λ stop. stop ≡ Stop.Memory) }
-    ensures text { OnOk result (text.new.items ≡ text.old.items ++ line_text (codes "boundary" ∷ decimal (length (boundary_of mesh.now)) ∷ [])) }
+    ensures text { OnOk result (text.new.items ≡ text.old.items ++ line_text (codes "boundary" ∷ decimal (length (boundary_of mesh.now.mesh)) ∷ [])) }
 {
     let edges = boundary(alloc, mesh)?;
     put_line(text, b"boundary ", edges.len())?;

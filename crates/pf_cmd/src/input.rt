@@ -107,11 +107,11 @@ pub(crate) fn read_mesh<S: Shelf>(
 ) -> Result<Listed, Stop>
     requires scale_low { 1 ≤ scale }
     requires scale_high { scale ≤ 1048576 }
-    ensures mesh { Tells (S.told shelf.old) → IfOk result (λ read. mesh_in (held (S.told shelf.old)) (stems_of stems.entry) scale ≡ Ok record { base = read.base; mesh = read.mesh; triangles = read.triangles.items }) }
+    ensures mesh { Tells (S.told shelf.old) → IfOk result (λ read. mesh_in (held (S.told shelf.old)) (stems_of stems.entry) scale ≡ Ok record { base = read.base; mesh = read.mesh.mesh; triangles = read.triangles.items }) }
     ensures count { IfOk result (λ read. length read.triangles.items ≤ 2097152) }
-    ensures listed { IfOk result (λ read. AreListed read.triangles.items read.mesh.tris) }
+    ensures listed { IfOk result (λ read. AreListed read.triangles.items read.mesh.mesh.tris) }
     ensures base { IfOk result (λ read. read.base ≤ 1) }
-    ensures fresh { IfOk result (λ read. (n : ℕ) → IsLive read.mesh n → n < read.mesh.first_new) }
+    ensures fresh { IfOk result (λ read. (n : ℕ) → IsLive read.mesh.mesh n → n < read.mesh.mesh.first_new) }
     ensures stop { IfErr result (Explains (seen S.told S.read_faults S.write_faults S.misses shelf.old) (seen S.told S.read_faults S.write_faults S.misses shelf.new) (mesh_in (held (S.told shelf.old)) (stems_of stems.entry) scale)) }
     ensures only_read { IsOnlyRead (seen S.told S.read_faults S.write_faults S.misses shelf.old) (seen S.told S.read_faults S.write_faults S.misses shelf.new) }
 {
@@ -180,8 +180,8 @@ pub(crate) fn read_parted<S: Shelf>(
     requires scale_high { scale ≤ 1048576 }
     ensures parted { Tells (S.told shelf.old) → IfOk result (λ read. parted_in (held (S.told shelf.old)) (stems_of stems.entry) scale ≡ Ok (parted_of read)) }
     ensures base { IfOk result (λ read. read.listed.base ≤ 1) }
-    ensures fresh { IfOk result (λ read. (n : ℕ) → IsLive read.listed.mesh n → n < read.listed.mesh.first_new) }
-    ensures listed { IfOk result (λ read. AreListed read.listed.triangles.items read.listed.mesh.tris) }
+    ensures fresh { IfOk result (λ read. (n : ℕ) → IsLive read.listed.mesh.mesh n → n < read.listed.mesh.mesh.first_new) }
+    ensures listed { IfOk result (λ read. AreListed read.listed.triangles.items read.listed.mesh.mesh.tris) }
     ensures each_triangle { IfOk result (λ read. length read.parts.owners ≡ length read.listed.triangles.items) }
     ensures owned { IfOk result (λ read. All (λ owner. owner < read.parts.chunks) read.parts.owners) }
     ensures stop { IfErr result (Explains (seen S.told S.read_faults S.write_faults S.misses shelf.old) (seen S.told S.read_faults S.write_faults S.misses shelf.new) (parted_in (held (S.told shelf.old)) (stems_of stems.entry) scale)) }
@@ -208,9 +208,9 @@ pub(crate) fn read_numbered<S: Shelf>(
 ) -> Result<Numbered, Stop>
     requires scale_low { 1 ≤ scale }
     requires scale_high { scale ≤ 1048576 }
-    ensures mesh { Tells (S.told shelf.old) → IfOk result (λ read. numbered_in (held (S.told shelf.old)) (stems_of stems.entry) scale ≡ Ok record { base = read.base; mesh = read.mesh }) }
+    ensures mesh { Tells (S.told shelf.old) → IfOk result (λ read. numbered_in (held (S.told shelf.old)) (stems_of stems.entry) scale ≡ Ok record { base = read.base; mesh = read.mesh.mesh }) }
     ensures base { IfOk result (λ read. read.base ≤ 1) }
-    ensures fresh { IfOk result (λ read. (n : ℕ) → IsLive read.mesh n → n < read.mesh.first_new) }
+    ensures fresh { IfOk result (λ read. (n : ℕ) → IsLive read.mesh.mesh n → n < read.mesh.mesh.first_new) }
     ensures stop { IfErr result (Explains (seen S.told S.read_faults S.write_faults S.misses shelf.old) (seen S.told S.read_faults S.write_faults S.misses shelf.new) (numbered_in (held (S.told shelf.old)) (stems_of stems.entry) scale)) }
     ensures only_read { IsOnlyRead (seen S.told S.read_faults S.write_faults S.misses shelf.old) (seen S.told S.read_faults S.write_faults S.misses shelf.new) }
 {

@@ -5,17 +5,20 @@
 #![tactic(auto)]
 
 mod check;
+mod condition;
 mod input;
 mod output;
 mod perform;
 mod place;
 mod program;
 mod replay;
+mod rest;
 mod say;
 mod stop;
 mod words;
 
 pub use program::run;
+pub use rest::rest_text;
 
 #[cfg(test)]
 mod tests;

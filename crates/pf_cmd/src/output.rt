@@ -53,7 +53,7 @@ pub(crate) fn put_line<I: Integer>(
 
 /// Puts what every report says of a mesh: how many nodes and triangles there are, and twice the area.
 pub(crate) fn put_mesh(text: &mut Vec<u8>, mesh: &Mesh) -> Result<(), AllocError>
-    ensures { OnOk result (text.new.items ≡ text.old.items ++ lines_text (mesh_lines mesh.now)) }
+    ensures { OnOk result (text.new.items ≡ text.old.items ++ lines_text (mesh_lines mesh.now.mesh)) }
 {
     put_line(text, b"nodes ", mesh.sites().len())?;
     put_line(text, b"triangles ", mesh.tris().len())?;

@@ -38,7 +38,7 @@ pub(crate) fn replay<S: Shelf>(
     requires scale_low { 1 ≤ scale }
     requires scale_high { scale ≤ 1048576 }
     ensures replayed { Tells (S.told shelf.old) → IfOk result (λ after.
-        replay_in (held (S.told shelf.old)) (stems_of stems.entry) scale ≡ Ok record { base = after.base; mesh = after.mesh; operations = after.operations }) }
+        replay_in (held (S.told shelf.old)) (stems_of stems.entry) scale ≡ Ok record { base = after.base; mesh = after.mesh.mesh; operations = after.operations }) }
     ensures base { IfOk result (λ after. after.base ≤ 1) }
     ensures stop { IfErr result (Explains (seen S.told S.read_faults S.write_faults S.misses shelf.old) (seen S.told S.read_faults S.write_faults S.misses shelf.new)
         (replay_in (held (S.told shelf.old)) (stems_of stems.entry) scale)) }
@@ -63,7 +63,7 @@ pub(crate) fn replay_output(
 ) -> Result<Output, Stop>
     requires { after.now.base ≤ 1 }
     ensures memory { IfErr result (λ stop. stop ≡ Stop.Memory) }
-    ensures output { IfOk result (λ output. given_of output ≡ replay_given (stems_of stems.entry) record { base = after.now.base; mesh = after.now.mesh; operations = after.now.operations }) }
+    ensures output { IfOk result (λ output. given_of output ≡ replay_given (stems_of stems.entry) record { base = after.now.base; mesh = after.now.mesh.mesh; operations = after.now.operations }) }
 {
     let node_text = node_text(alloc, &after.mesh, after.base)?;
     let ele_text = ele_text(alloc, &after.mesh, after.base)?;
@@ -78,11 +78,11 @@ pub(crate) fn replay_output(
 
 /// Applies the entries one after another, up to the first that is refused.
 pub(crate) fn apply_all(mesh: &mut Mesh, entries: &[Entry]) -> Result<(), Stop>
-    requires fresh { (n : ℕ) → IsLive mesh.old n → n < mesh.old.first_new }
+    requires fresh { (n : ℕ) → IsLive mesh.old.mesh n → n < mesh.old.mesh.first_new }
     requires tickets { HasTickets entries.now }
-    requires limit { mesh.old.first_new + length entries.now ≤ 1048576 }
-    ensures all { OnOk result (mesh_after mesh.old entries.now ≡ Ok mesh.new) }
-    ensures stop { IfErr result (λ stop. stop ≢ Stop.Memory → mesh_after mesh.old entries.now ≡ Err stop) }
+    requires limit { mesh.old.mesh.first_new + length entries.now ≤ 1048576 }
+    ensures all { OnOk result (mesh_after mesh.old.mesh entries.now ≡ Ok mesh.new.mesh) }
+    ensures stop { IfErr result (λ stop. stop ≢ Stop.Memory → mesh_after mesh.old.mesh entries.now ≡ Err stop) }
     ensures inner { IfErr result IsInner }
 {
     match pf_journal::replay(mesh, entries) {
@@ -95,7 +95,7 @@ pub(crate) fn apply_all(mesh: &mut Mesh, entries: &[Entry]) -> Result<(), Stop>
 
 // The report: how many operations, nodes and triangles there are, and twice the area.
 fn report_text(alloc: Global, after: &Replayed) -> Result<Vec<u8>, AllocError>
-    ensures { IfOk result (λ text. text.items ≡ replay_report after.now.operations after.now.mesh) }
+    ensures { IfOk result (λ text. text.items ≡ replay_report after.now.operations after.now.mesh.mesh) }
 {
     let mut text = Vec::new(alloc);
     put_line(&mut text, b"operations ", after.operations)?;

@@ -9,6 +9,7 @@ use std::test::Fail;
 
 mod again;
 mod memory;
+mod rest;
 mod rows;
 
 const KITE_NODE: &[u8] = b"4 2 0 0\n0 0 0\n1 8 0\n2 4 2\n3 4 -2\n";
@@ -24,6 +25,45 @@ const REPORT: &[u8] = b"operations 1\nnodes 4\ntriangles 2\narea2 32\n";
 const ONE_CHUNK: &[u8] = b"0\n0\n";
 
 const ALL_LENGTHS: &[u8] = b"default 0 1000\n";
+
+const SQUARE_NODE: &[u8] = b"4 2 0 0\n0 0 0\n1 4 0\n2 4 4\n3 0 4\n";
+
+const SQUARE_ELE: &[u8] = b"2 3 0\n0 0 1 2\n1 0 2 3\n";
+
+// The files of a mesh.
+#[derive(Clone, Copy)]
+struct Input<'a> {
+    node: &'a [u8],
+    ele: &'a [u8],
+    part: &'a [u8],
+    size: &'a [u8],
+}
+
+const SQUARE: Input<'static> = Input {
+    node: SQUARE_NODE,
+    ele: SQUARE_ELE,
+    part: ONE_CHUNK,
+    size: ALL_LENGTHS,
+};
+
+// The mesh of two triangles on a base line, with a node in the middle of it.
+const ROOF: Input<'static> = Input {
+    node: b"4 2 0 0\n0 0 0\n1 4 0\n2 8 0\n3 4 4\n",
+    ele: b"2 3 0\n0 0 1 3\n1 1 2 3\n",
+    ..SQUARE
+};
+
+// The files of a mesh and a journal on a shelf with room for what is written.
+fn shelf_of(alloc: Global, input: Input<'_>, journal: &[u8]) -> Result<MemShelf, Fail> {
+    let mut shelf = MemShelf::new(alloc, Vec::new(alloc));
+    shelf.put("k.node", input.node)?;
+    shelf.put("k.ele", input.ele)?;
+    shelf.put("k.part", input.part)?;
+    shelf.put("k.size", input.size)?;
+    shelf.put("o.journal", journal)?;
+    make_room(&mut shelf, 1000)?;
+    Ok(shelf)
+}
 
 // The kite on a shelf with room for what is written, of which these calls will fail.
 fn kite(alloc: Global, journal: &[u8], fail: Vec<Call>) -> Result<MemShelf, Fail> {

@@ -16,7 +16,7 @@ use std::alloc::Global;
 
 /// Twice the area of the mesh, in squared coordinate units. It can't overflow, and takes no memory.
 pub fn area2(m: &Mesh) -> i128
-    ensures { result ≡ area2_of m.now }
+    ensures { result ≡ area2_of m.now.mesh }
 {
     let mut sum = 0;
     for t in m.tris() {
@@ -27,7 +27,7 @@ pub fn area2(m: &Mesh) -> i128
 
 // Twice the area of a triangle.
 fn turn(m: &Mesh, t: Tri) -> i128
-    ensures value { result ≡ turn_at m.now t.a t.b t.c }
+    ensures value { result ≡ turn_at m.now.mesh t.a t.b t.c }
     ensures bounded { IsWithin 576460752303423488 result }
 {
     orient(place(m, t.a), place(m, t.b), place(m, t.c))
@@ -35,7 +35,7 @@ fn turn(m: &Mesh, t: Tri) -> i128
 
 // Where a node stands, and the origin where it isn't live.
 fn place(m: &Mesh, n: u32) -> Point
-    ensures value { result ≡ place_of m.now n }
+    ensures value { result ≡ place_of m.now.mesh n }
     ensures in_range { IsInRange result }
 {
     m.site(n).unwrap_or(Point { x: 0, y: 0 })
@@ -45,7 +45,7 @@ fn place(m: &Mesh, n: u32) -> Point
 /// triangles it has. Takes time in proportion to F log F for F triangles, and `NoMemory` says that there was
 /// no room for their directed edges.
 pub fn euler(alloc: Global, m: &Mesh) -> Result<i64, NoMemory>
-    ensures { IfOk result (λ number. number ≡ euler_of m.now) }
+    ensures { IfOk result (λ number. number ≡ euler_of m.now.mesh) }
 {
     let edges = directed_edges(alloc, m.tris())?;
     let count = count_edges(&edges);
@@ -65,7 +65,7 @@ fn alternating(nodes: usize, edges: usize, triangles: usize) -> i64
 /// triangle on the left, whose reverse is in no triangle. Takes time in proportion to F log F for F
 /// triangles, and `NoMemory` says that there was no room for their directed edges.
 pub fn boundary(alloc: Global, m: &Mesh) -> Result<Vec<(u32, u32)>, NoMemory>
-    ensures { IfOk result (λ edges. map edge_at edges.items ≡ boundary_of m.now) }
+    ensures { IfOk result (λ edges. map edge_at edges.items ≡ boundary_of m.now.mesh) }
 {
     let edges = directed_edges(alloc, m.tris())?;
     open_edges(alloc, &edges)

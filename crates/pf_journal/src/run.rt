@@ -41,17 +41,17 @@ fn refusal_of(stop: RunErr) -> ReplayErr
 /// `At` and `Gone` name the first entry that `apply` refuses after those before it. After an error the
 /// mesh is the replay of the entries before the one that failed.
 pub fn replay(mesh: &mut Mesh, entries: &[Entry]) -> Result<(), ReplayErr>
-    requires fresh { (n : ℕ) → IsLive mesh.old n → n < mesh.old.first_new }
+    requires fresh { (n : ℕ) → IsLive mesh.old.mesh n → n < mesh.old.mesh.first_new }
     requires tickets { HasTickets entries.now }
-    requires limit { mesh.old.first_new + length entries.now ≤ 1048576 }
-    ensures replayed { OnOk result (mesh.new ≡ replayed mesh.old entries.now) }
-    ensures passed { OnOk result (first_refusal mesh.old entries.now ≡ None) }
-    ensures refused { IfErr result (λ err. err ≢ Memory → first_refusal mesh.old entries.now ≡ Some err) }
-    ensures before { IfErr result (λ err. IsReplayedBefore mesh.old mesh.new entries.now err) }
+    requires limit { mesh.old.mesh.first_new + length entries.now ≤ 1048576 }
+    ensures replayed { OnOk result (mesh.new.mesh ≡ replayed mesh.old.mesh entries.now) }
+    ensures passed { OnOk result (first_refusal mesh.old.mesh entries.now ≡ None) }
+    ensures refused { IfErr result (λ err. err ≢ Memory → first_refusal mesh.old.mesh entries.now ≡ Some err) }
+    ensures before { IfErr result (λ err. IsReplayedBefore mesh.old.mesh mesh.new.mesh entries.now err) }
 
     // A replay keeps the mesh conforming, and twice its area.
-    ensures conforming { IsConforming mesh.new }
-    ensures area { area2_of mesh.new ≡ area2_of mesh.old }
+    ensures conforming { IsConforming mesh.new.mesh }
+    ensures area { area2_of mesh.new.mesh ≡ area2_of mesh.old.mesh }
 {
     match mesh.apply_all(entries) {
         Ok(()) => Ok(()),

@@ -11,6 +11,7 @@ use Rattle.pf_model.specs.Mesh.{Undivided, tri_of, side_of, is_edge}
 use Rattle.pf_model.specs.Conforming.{IsConforming}
 use Rattle.pf_model.specs.Stars.{spokes_of, is_one_fan, is_neighbour}
 use Rattle.pf_model.specs.Conditions.{is_owned, edge_clauses, first_failing}
+use Rattle.pf_model.proofs.FlipKeeps.{corners_of}
 use Rattle.pf_model.proofs.Kept.{any-from, any-means, side_of-found}
 use Rattle.pf_model.proofs.Triangles.{tri_of-edge_one, tri_of-edge_three}
 use Rattle.pf_model.proofs.Spokes.{spokes-means}
@@ -61,6 +62,20 @@ neighbour-edge m ok x v = go (is_neighbour x (spokes_of m v)) refl (is_edge m.tr
     go false e false f = refl
     go true e false f = sym (forth e) ∙ f
     go false e true f = sym e ∙ back f
+
+-- no node is its own neighbour
+pub not-own : (m : Undivided) → IsConforming m → (x v : ℕ) → x ≡ v → not (x == v) ≡ is_neighbour x (spokes_of m v)
+not-own m ok x v same = itself x v same ∙ go (is_neighbour x (spokes_of m v)) refl
+  where
+    itself : (a b : ℕ) → a ≡ b → not (a == b) ≡ false
+    itself a b e = grind (arith, nat_tests)
+
+    go : (b : Bool) → is_neighbour x (spokes_of m v) ≡ b → false ≡ b
+    go false e = refl
+    go true e =
+        let s = any-means (λ r. r.right == x || r.left == x) (spokes_of m v) e in
+        let apart = (corners_of m ok v s.0.right s.0.left s.0.owner (spokes-means m ok v s.0 s.1)).distinct in
+        absurd (elim (one_of s.0.right s.0.left x s.2) [ inl q ↦ apart.one (sym (q ∙ same)) | inr q ↦ apart.three (q ∙ same) ])
 
 pub beside-shown : (sides : Sides) (nodes : List Node) (m : Undivided) → IsConforming m → Shows sides nodes m → (x v : ℕ) (b : Bool) → b ≡ (is_some (side_at sides x v) || is_some (side_at sides v x)) → b ≡ is_neighbour x (spokes_of m v)
 beside-shown sides nodes m ok s x v b e =

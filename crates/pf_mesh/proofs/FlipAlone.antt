@@ -1,6 +1,6 @@
 -- Whether the acting chunk's flip of an edge passes is told by the clauses of a flip alone.
 use Rattle.std.proofs.Common.{◌≡◌, ℕ, List, ◌∷◌, refl, sym, ◌∙◌, ap, subst, Bool, true, false, ◌&&◌, ◌||◌, ◌==◌, ◌⊎◌, inl, inr, arith}
-use Rattle.std.specs.Prelude.{Option, Some, None, is_some, is_none, not, min, max}
+use Rattle.std.specs.Prelude.{◌≤◌, Option, Some, None, is_some, is_none, not, min, max}
 use Rattle.std.proofs.lemmas.Bool.Decides.{nat_tests}
 use Rattle.pf_model.specs.declared.Tri.{Tri}
 use Rattle.pf_model.specs.declared.Cond.{Cond}
@@ -87,6 +87,19 @@ turning-alone m ok e = go (first_of (turning_clauses m e.lo e.hi)) refl
         (when (a == b || not (is_edge m.tris a b)) NoEdge)
         (when (not (is_owned chunk (side_of m.tris a b) || is_owned chunk (side_of m.tris b a))) Foreign)
         (turning_clauses m a b) x p
+
+-- the same where the lower name stands first
+pub turning-sorted : (m : Undivided) → IsConforming m → (e : Edge) → e.lo ≤ e.hi
+    → is_none (first_of (flip_clauses m e.lo e.hi (apex_or (side_of m.tris e.lo e.hi)) (apex_or (side_of m.tris e.hi e.lo)))) ≡ is_none (first_failing m (acting_chunk m e) (Flip e.lo e.hi))
+turning-sorted m ok e sorted =
+    sym (λ i. is_none (first_of (flip_clauses m (low i) (high i) (apex_or (side_of m.tris (low i) (high i))) (apex_or (side_of m.tris (high i) (low i))))))
+    ∙ turning-alone m ok e
+  where
+    low : min e.lo e.hi ≡ e.lo
+    low = omega arith
+
+    high : max e.lo e.hi ≡ e.hi
+    high = omega arith
 
 -- as the call of is_none says it
 pub none-told : (o : Option Cond) (told : Bool) → is_some o ≡ not told → told ≡ is_none o

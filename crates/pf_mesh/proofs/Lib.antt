@@ -17,6 +17,7 @@ pub mod StarSpokes
 pub mod StarFan
 pub mod Signed
 pub mod ContractReads
+pub mod Least
 pub mod ContractExchange
 pub mod BisectExchange
 pub mod OperationLemmas
@@ -33,3 +34,6 @@ pub mod SpanLemmas
 pub mod WalkSteps
 pub mod WalkEnds
 pub mod FlipAlone
+pub mod Entries
+pub mod Exchanged
+pub mod EdgeSpots

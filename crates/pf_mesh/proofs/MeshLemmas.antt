@@ -15,7 +15,12 @@ use Rattle.pf_model.specs.Conforming.{IsConforming, IsLive}
 use Rattle.pf_model.proofs.Kept.{any-means}
 use Rattle.pf_model.proofs.Triangles.{has_corner-means}
 use Rattle.pf_mesh.specs.declared.table.Node.{Node}
-use Rattle.pf_mesh.specs.Table.{Sides, edge_eq, side_value, no_node, place_at, triangles_at, site_at, number_at, IsWithin, ShowsTriangles, Shows}
+use Rattle.pf_mesh.specs.Mesh.{MeshValue, IsKept}
+use Rattle.pf_mesh.specs.Table.{Sides, edge_eq, side_value, no_node, place_at, triangles_at, site_at, number_at, AreInRange, IsWithin, ShowsTriangles, Shows}
+
+-- equal values have equal meshes
+pub same-mesh : {v w : MeshValue} → v ≡ w → v.mesh ≡ w.mesh
+same-mesh e = λ i. (e i).mesh
 
 apart : (b : Bool) → b ≡ true → b ≡ false → ⊥
 apart b e f = let k : true ≡ false = sym e ∙ f in absurd (cc)
@@ -96,4 +101,13 @@ shows-unchanged sides new nodes after ts u e s =
       sides = λ p q. ap (λ es. option_map side_value (lookup (edge_eq record { from = p; to = q }) es)) u ∙ s.sides p q;
       counts = λ n. ap (λ ns. triangles_at ns n) e ∙ s.counts n;
       all = ap length u ∙ s.all;
+    }
+
+-- what is kept by a table with the same entries and nodes
+pub kept-unchanged : (sides new : Sides) (nodes after : List Node) (m : Undivided) → IsUnchanged sides new → after ≡ nodes → IsKept sides nodes m → IsKept new after m
+kept-unchanged sides new nodes after m u e k =
+    record {
+      conforming = k.conforming;
+      shows = record { triangles = shows-unchanged sides new nodes after m.tris u e k.shows.triangles; sites = λ n. ap (λ ns. site_at ns n) e ∙ k.shows.sites n };
+      in_range = subst (λ ns. AreInRange ns) (sym e) k.in_range;
     }

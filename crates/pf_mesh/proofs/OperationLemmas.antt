@@ -2,6 +2,7 @@
 use Rattle.std.proofs.Common.{◌≡◌, ◌≢◌, ℕ, ◌+◌, ◌<◌, ◌≤◌, List, [], ◌∷◌, ◌++◌, length, refl, sym, ◌∙◌, ap, subst, Bool, true, false, cond, ◌⊎◌, inl, inr, arith, Option, Some, None, is_some}
 use Rattle.std.specs.Prelude.{nat_lt, ◌==◌, unwrap_or, pos}
 use Rattle.std.proofs.lemmas.Bool.Decides.{nat_tests}
+use Rattle.indexmap.specs.IndexMap.{IsUnchanged}
 use Rattle.pf_geom.specs.declared.Point.{Point}
 use Rattle.pf_geom.specs.Plane.{IsInRange}
 use Rattle.pf_model.specs.declared.Site.{Site}
@@ -19,12 +20,17 @@ use Rattle.pf_mesh.specs.declared.table.Node.{Node}
 use Rattle.pf_mesh.specs.Table.{Sides, place_at, triangles_at, place_or_origin, AreInRange, ShowsTriangles, HasSamePlaces}
 use Rattle.pf_mesh.specs.Mesh.{IsKept, mesh_of}
 use Rattle.pf_mesh.specs.Sites.{sites_after}
-use Rattle.pf_mesh.specs.Operations.{CanApply, HasPlaces}
-use Rattle.pf_mesh.proofs.MeshLemmas.{live-within, shown-place, shows-from}
+use Rattle.pf_mesh.specs.Exchange.{CanExchange, exchanged}
+use Rattle.pf_mesh.specs.Operations.{CanApply, IsChange, AreParts, HasPlaces}
+use Rattle.pf_mesh.proofs.MeshLemmas.{live-within, shown-place, shows-from, kept-unchanged}
 
 -- the new name isn't live
 pub new_not_live : (m : Undivided) (n : ℕ) (op : Op) → CanApply m n op → point_of m.sites n ≡ None
 new_not_live m n op can = subst (λ k. point_of m.sites k ≡ None) can.name (fresh_not_live m.sites (m.first_new + can.ticket) can.fresh)
+
+-- what an operation that can be applied makes of the triangles
+pub change-from : (m : Undivided) (n : ℕ) (op : Op) (gone new : List Tri) → ((can : CanApply m n op) → CanExchange gone new m.tris × (exchanged gone new m.tris ≡ (op_applied m can.ticket op).tris)) → IsChange m n op gone new
+change-from m n op gone new h = record { fits = λ can. (h can).0; makes = λ can. (h can).1 }
 
 -- a name without triangles may stand elsewhere
 pub keeps-stood : (sides : Sides) (nodes after : List Node) (m : Undivided) (n : ℕ) → IsKept sides nodes m → point_of m.sites n ≡ None → ((k : ℕ) → triangles_at after k ≡ triangles_at nodes k) → ((k : ℕ) → n ≢ k → place_at after k ≡ place_at nodes k) → AreInRange after → IsKept sides after m
@@ -141,3 +147,14 @@ pub parts-applied : (m : Undivided) (ticket : ℕ) (op : Op) (sites : List Site)
 parts-applied m ticket (Flip a b) sites tris e f = λ i. mesh_of m.first_new (e i) (f i) m.bands m.chunks
 parts-applied m ticket (Bisect a b) sites tris e f = λ i. mesh_of m.first_new (e i) (f i) m.bands m.chunks
 parts-applied m ticket (Contract u v) sites tris e f = λ i. mesh_of m.first_new (e i) (f i) m.bands m.chunks
+
+-- the parts of the mesh, once room was made
+pub parts-roomier : (sides new : Sides) (nodes after : List Node) (sites sites' : List Site) (tris tris' : List Tri) (m : Undivided) → IsUnchanged sides new → after ≡ nodes → sites' ≡ sites → tris' ≡ tris → AreParts sides nodes sites tris m → AreParts new after sites' tris' m
+parts-roomier sides new nodes after sites sites' tris tris' m u e s t p = record { kept = kept-unchanged sides new nodes after m u e p.kept; sites_are = s ∙ p.sites_are; tris_are = t ∙ p.tris_are }
+
+-- a mesh with the parts of that after an operation is it
+pub parts-after : (sides : Sides) (nodes : List Node) (sites : List Site) (tris : List Tri) (m : Undivided) (ticket : ℕ) (op : Op) → AreParts sides nodes sites tris (op_applied m ticket op) → mesh_of m.first_new sites tris m.bands m.chunks ≡ op_applied m ticket op
+parts-after sides nodes sites tris m ticket op p = parts-applied m ticket op sites tris p.sites_are p.tris_are
+
+pub kept-after : (sides : Sides) (nodes : List Node) (sites : List Site) (tris : List Tri) (m : Undivided) (ticket : ℕ) (op : Op) → AreParts sides nodes sites tris (op_applied m ticket op) → IsKept sides nodes (mesh_of m.first_new sites tris m.bands m.chunks)
+kept-after sides nodes sites tris m ticket op p = subst (λ k. IsKept sides nodes k) (sym (parts-after sides nodes sites tris m ticket op p)) p.kept

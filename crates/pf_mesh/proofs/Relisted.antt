@@ -1,7 +1,6 @@
 -- The triangles that are listed from the table are those of the mesh that it shows.
 use Rattle.std.proofs.Common.{◌≡◌, ℕ, suc, ◌<◌, List, [], ◌∷◌, length, refl, sym, ◌∙◌, ap, subst, Bool, true, false, cond, ◌&&◌, ◌==◌, ◌⊎◌, inl, inr, arith, Option, Some, None}
 use Rattle.std.specs.Prelude.{Contains, nat_lt}
-use Rattle.std.specs.Cmp.{IsEquivalence}
 use Rattle.std.specs.List.{IsDistinct, AllByRecursion}
 use Rattle.std.specs.Map.{keys_of}
 use Rattle.std.specs.Option.{option_map}
@@ -22,33 +21,8 @@ use Rattle.pf_mesh.specs.Exchange.{IsNone, AreOnce, AreSound}
 use Rattle.pf_mesh.specs.Table.{Sides, edge_eq, side_value}
 use Rattle.pf_mesh.specs.Mesh.{IsKept}
 use Rattle.pf_mesh.specs.Relist.{starts_least, least_tris}
+use Rattle.pf_mesh.proofs.Sides.{edge_exact, edge_itself, edge_laws}
 use Rattle.pf_mesh.proofs.SortedIs.{sorted-is}
-
-same_name : (a b : ℕ) → (a == b) ≡ true → a ≡ b
-same_name a b e = grind (arith, nat_tests)
-
-same_edge : (e f : Edge) → edge_eq e f ≡ true → (e.from ≡ f.from) × (e.to ≡ f.to)
-same_edge e f h = go (e.from == f.from) (e.to == f.to) refl refl h
-  where
-    go : (x y : Bool) → (e.from == f.from) ≡ x → (e.to == f.to) ≡ y → (x && y) ≡ true → (e.from ≡ f.from) × (e.to ≡ f.to)
-    go true true i j k = (same_name e.from f.from i, same_name e.to f.to j)
-    go true false i j k = absurd (let z : false ≡ true = k in cc)
-    go false y i j k = absurd (let z : false ≡ true = k in cc)
-
-edge_exact : (e f : Edge) → edge_eq e f ≡ true → e ≡ f
-edge_exact e f h = let s = same_edge e f h in λ i. record { from = s.0 i; to = s.1 i }
-
-edge_itself : (e : Edge) → edge_eq e e ≡ true
-edge_itself e = grind (arith, nat_tests)
-
-edge_laws : IsEquivalence edge_eq
-edge_laws = record { refl = edge_itself; symm = flips; congr = λ x y z h. ap (λ w. edge_eq w z) (edge_exact x y h) }
-  where
-    flip : (a b : ℕ) → (a == b) ≡ (b == a)
-    flip a b = grind (arith, nat_tests)
-
-    flips : (x y : Edge) → edge_eq x y ≡ edge_eq y x
-    flips x y = λ i. flip x.from y.from i && flip x.to y.to i
 
 -- the triangle of an entry
 abbrev tri_from : Edge × Left → Tri

@@ -1,8 +1,11 @@
--- The sides of the edge table after an entry is put in or taken out.
+-- The sides of the edge table after an entry is put in or taken out, and the laws of its keys.
 -- Assumes nothing.
-use Rattle.std.proofs.Common.{◌≡◌, ℕ, refl, ◌∙◌, ap, Bool, true, false, cond, Option, Some, None, is_some, ◌&&◌, ◌==◌}
+use Rattle.std.proofs.Common.{◌≡◌, ℕ, refl, ◌∙◌, ap, Bool, true, false, cond, Option, Some, None, is_some, arith, ◌&&◌, ◌==◌}
+use Rattle.std.specs.Cmp.{IsEquivalence}
 use Rattle.std.specs.Option.{option_map}
+use Rattle.std.proofs.lemmas.Bool.Decides.{nat_tests}
 use Rattle.indexmap.specs.IndexMap.{Updates, get}
+use Rattle.pf_mesh.specs.declared.table.Edge.{Edge}
 use Rattle.pf_mesh.specs.declared.table.Left.{Left}
 use Rattle.pf_mesh.specs.Table.{Sides, edge_eq, side_value, side_at}
 
@@ -23,3 +26,29 @@ is_some-side_at m p q = go (get edge_eq m record { from = p; to = q })
     go : (o : Option Left) → is_some o ≡ is_some (option_map side_value o)
     go None = refl
     go (Some x) = refl
+
+same_name : (a b : ℕ) → (a == b) ≡ true → a ≡ b
+same_name a b e = grind (arith, nat_tests)
+
+pub same_ends : (p q a b : ℕ) → (p == a && q == b) ≡ true → (p ≡ a) × (q ≡ b)
+same_ends p q a b h = go (p == a) (q == b) refl refl h
+  where
+    go : (x y : Bool) → (p == a) ≡ x → (q == b) ≡ y → (x && y) ≡ true → (p ≡ a) × (q ≡ b)
+    go true true i j k = (same_name p a i, same_name q b j)
+    go true false i j k = absurd (let z : false ≡ true = k in cc)
+    go false y i j k = absurd (let z : false ≡ true = k in cc)
+
+pub edge_exact : (e f : Edge) → edge_eq e f ≡ true → e ≡ f
+edge_exact e f h = let s = same_ends e.from e.to f.from f.to h in λ i. record { from = s.0 i; to = s.1 i }
+
+pub edge_itself : (e : Edge) → edge_eq e e ≡ true
+edge_itself e = grind (arith, nat_tests)
+
+pub edge_laws : IsEquivalence edge_eq
+edge_laws = record { refl = edge_itself; symm = flips; congr = λ x y z h. ap (λ w. edge_eq w z) (edge_exact x y h) }
+  where
+    flip : (a b : ℕ) → (a == b) ≡ (b == a)
+    flip a b = grind (arith, nat_tests)
+
+    flips : (x y : Edge) → edge_eq x y ≡ edge_eq y x
+    flips x y = λ i. flip x.from y.from i && flip x.to y.to i

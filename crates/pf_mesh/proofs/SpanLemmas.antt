@@ -20,9 +20,8 @@ use Rattle.pf_model.proofs.RisingLemmas.{IsStrictOrder, rising-same}
 use Rattle.pf_model.proofs.Totals.{Compares, different-filter, map-means, sorted-rises}
 use Rattle.pf_model.proofs.Triangles.{side_of-none}
 use Rattle.pf_model.proofs.EdgeSum.{conforming-sound, directed_edges_of-different, directed_edges_of-means}
-use Rattle.pf_mesh.specs.declared.lengths.Span.{Span}
-use Rattle.pf_mesh.specs.Lengths.{span_value}
-use Rattle.pf_mesh.specs.Rest.{counted_in}
+use Rattle.pf_mesh.specs.declared.rest.edges.Sided.{Sided}
+use Rattle.pf_mesh.specs.Rest.{counted_in, sided_edge}
 use Rattle.pf_mesh.proofs.Exchange.{bool_cases}
 
 -- the edges of the triangles that are left
@@ -145,29 +144,29 @@ rising-steps xs s i j d l k = go j l k
         last a h = let e : a + 1 ≡ suc a = omega arith in subst (λ b. edge_lt (get_or xs a d) (get_or xs b d) ≡ true) e (s a d (omega arith))
 
 -- by the order of names, the second not before the first
-abbrev pub NotBefore : Span → Span → Type 0
-NotBefore y x = is_lt (ordering_then (nat_cmp y.lo x.lo) (nat_cmp y.hi x.hi)) ≡ false
+abbrev pub NotBefore : Sided → Sided → Type 0
+NotBefore y x = is_lt (ordering_then (nat_cmp y.span.lo x.span.lo) (nat_cmp y.span.hi x.span.hi)) ≡ false
 
-steps_up : (x y : Span) → NotBefore y x → same_names (span_value x) (span_value y) ≡ false → edge_lt (span_value x) (span_value y) ≡ true
+steps_up : (x y : Sided) → NotBefore y x → same_names (sided_edge x) (sided_edge y) ≡ false → edge_lt (sided_edge x) (sided_edge y) ≡ true
 steps_up x y n e = grind (arith, nat_tests)
 
-pub sorted-spans : (xs ys : List Span) → AreDifferent (map span_value xs) → IsPermutation xs ys → ((k : ℕ) (d : Span) → 0 ≤ k → k + 1 < length ys → NotBefore (get_or ys (k + 1) d) (get_or ys k d)) → map span_value ys ≡ sorted_by edge_lt (map span_value xs)
+pub sorted-spans : (xs ys : List Sided) → AreDifferent (map sided_edge xs) → IsPermutation xs ys → ((k : ℕ) (d : Sided) → 0 ≤ k → k + 1 < length ys → NotBefore (get_or ys (k + 1) d) (get_or ys k d)) → map sided_edge ys ≡ sorted_by edge_lt (map sided_edge xs)
 sorted-spans xs ys o p n =
-    rising-same edge_lt edge_lt-order (map span_value ys) (sorted_by edge_lt (map span_value xs)) (rising-steps (map span_value ys) steps) (sorted-rises edge_lt edge_lt-order edge_lt-compares (map span_value xs) o)
-    (λ z h. insert_all_by-new edge_lt z (map span_value xs) [] (Contains-permutation (map span_value ys) (map span_value xs) z (IsPermutation-sym (map span_value xs) (map span_value ys) p') h))
-    (λ z h. elim (insert_all_by-cases edge_lt z (map span_value xs) [] h) [ inl a ↦ Contains-permutation (map span_value xs) (map span_value ys) z p' a | inr b ↦ absurd (nowhere z b) ])
+    rising-same edge_lt edge_lt-order (map sided_edge ys) (sorted_by edge_lt (map sided_edge xs)) (rising-steps (map sided_edge ys) steps) (sorted-rises edge_lt edge_lt-order edge_lt-compares (map sided_edge xs) o)
+    (λ z h. insert_all_by-new edge_lt z (map sided_edge xs) [] (Contains-permutation (map sided_edge ys) (map sided_edge xs) z (IsPermutation-sym (map sided_edge xs) (map sided_edge ys) p') h))
+    (λ z h. elim (insert_all_by-cases edge_lt z (map sided_edge xs) [] h) [ inl a ↦ Contains-permutation (map sided_edge xs) (map sided_edge ys) z p' a | inr b ↦ absurd (nowhere z b) ])
   where
-    p' : IsPermutation (map span_value xs) (map span_value ys)
-    p' = IsPermutation-map span_value xs ys p
+    p' : IsPermutation (map sided_edge xs) (map sided_edge ys)
+    p' = IsPermutation-map sided_edge xs ys p
 
-    distinct : IsDistinct same_names (map span_value ys)
-    distinct = IsDistinct-IsPermutation same_names same_names-flips (map span_value xs) (map span_value ys) p' (distinct-names (map span_value xs) o)
+    distinct : IsDistinct same_names (map sided_edge ys)
+    distinct = IsDistinct-IsPermutation same_names same_names-flips (map sided_edge xs) (map sided_edge ys) p' (distinct-names (map sided_edge xs) o)
 
-    steps : Steps (map span_value ys)
+    steps : Steps (map sided_edge ys)
     steps k d l =
-        let few : k + 1 < length ys = omega (arith, length-map ys span_value) in
-        let s : Span = record { lo = d.lo; hi = d.hi } in
-        let a = get_or-map span_value ys k s d (omega arith) in
-        let b = get_or-map span_value ys (k + 1) s d few in
-        let apart : same_names (span_value (get_or ys k s)) (span_value (get_or ys (k + 1) s)) ≡ false = rw (a, b) at (apart_from_distinct same_names (map span_value ys) k (k + 1) d distinct (omega arith) l) in
+        let few : k + 1 < length ys = omega (arith, length-map ys sided_edge) in
+        let s : Sided = record { span = record { lo = d.lo; hi = d.hi }; flanks = record { left = None; right = None } } in
+        let a = get_or-map sided_edge ys k s d (omega arith) in
+        let b = get_or-map sided_edge ys (k + 1) s d few in
+        let apart : same_names (sided_edge (get_or ys k s)) (sided_edge (get_or ys (k + 1) s)) ≡ false = rw (a, b) at (apart_from_distinct same_names (map sided_edge ys) k (k + 1) d distinct (omega arith) l) in
         rw (a, b) (steps_up (get_or ys k s) (get_or ys (k + 1) s) (n k s (omega arith) few) apart)

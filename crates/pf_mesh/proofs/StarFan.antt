@@ -1,7 +1,7 @@
 -- The steps of turning round a node of a conforming mesh, and whether its spokes are one fan.
 -- Assumes `IsConforming m`.
-use Rattle.std.proofs.Common.{◌≡◌, ◌≢◌, ℕ, ◌≤◌, List, [], length, refl, sym, ◌∙◌, subst, true, false, arith, Some, None}
-use Rattle.arrayvec.specs.ArrayVec.{ArrayVec}
+use Rattle.std.proofs.Common.{◌≡◌, ◌≢◌, ℕ, ◌≤◌, List, [], length, refl, sym, ◌∙◌, ap, subst, Bool, true, false, ◌==◌, arith, Some, None}
+use Rattle.std.proofs.lemmas.Bool.Decides.{nat_tests}
 use Rattle.pf_model.specs.declared.Spoke.{Spoke}
 use Rattle.pf_model.specs.Rising.{insert_by}
 use Rattle.pf_model.specs.Mesh.{Undivided, is_edge}
@@ -52,18 +52,16 @@ module _ (m : Undivided) (ok : IsConforming m) (u : ℕ) where
   pub fan-whole : (v most : ℕ) (found : List Spoke) → IsTurned (spokes_of m u) found v → length (spokes_of m u) ≡ most → length found ≡ most → found ≡ spokes_of m u
   fan-whole v most found t e all = all-found (spokes_of m u) (spokes-simple m ok u) (spokes-rise m ok u) found t.part (omega (arith, e, all))
 
-pub fan-none : (spokes : List Spoke) → is_one_fan spokes ≡ false → IsFan spokes None
-fan-none spokes e = record { whole = λ s k. absurd (let z : None ≡ Some s = k in cc); pinched = λ k. e }
-
-pub fan-some : (spokes : List Spoke) (s : ArrayVec Spoke) → s.items ≡ spokes → is_one_fan spokes ≡ true → IsFan spokes (Some s)
-fan-some spokes s e f =
-    record {
-      whole = λ t k. subst (λ w. (w.items ≡ spokes) × (is_one_fan spokes ≡ true)) (let z : Some s ≡ Some t = k in some_same z) (e, f);
-      pinched = λ k. absurd (let z : Some s ≡ None = k in cc);
-    }
+-- fewer were found than there are
+pub fan-short : (spokes found : List Spoke) (n most : ℕ) → n ≢ most → is_one_fan spokes ≡ false → IsFan spokes (n == most) found
+fan-short spokes found n most less e = record { told = test n most less ∙ sym e; whole = λ k. absurd (let z : false ≡ true = sym (test n most less) ∙ k in cc) }
   where
-    some_same : {a b : ArrayVec Spoke} → Some a ≡ Some b → a ≡ b
-    some_same q = cc
+    test : (a b : ℕ) → a ≢ b → (a == b) ≡ false
+    test a b l = grind (arith, nat_tests)
+
+-- as many were found
+pub fan-told : (spokes found : List Spoke) (b : Bool) → found ≡ spokes → b ≡ is_one_fan found → IsFan spokes b found
+fan-told spokes found b e f = record { told = f ∙ ap is_one_fan e; whole = λ k. e }
 
 -- the table counts the spokes
 pub counted : (sides : Sides) (nodes : List Node) (m : Undivided) → Shows sides nodes m → (u most : ℕ) → most ≡ triangles_at nodes u → length (spokes_of m u) ≡ most

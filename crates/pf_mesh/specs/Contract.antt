@@ -1,5 +1,5 @@
 -- The conditions of a contraction that are asked of the star of the node that goes, and what the contraction makes of it.
-use Rattle.std.specs.Prelude.{ℕ, pos, List, [], ◌∷◌, Bool, not, ◌&&◌, ◌||◌, ◌==◌, Option, filter, map, min, max, unwrap_or}
+use Rattle.std.specs.Prelude.{ℕ, pos, List, [], ◌∷◌, ◌++◌, Bool, not, ◌&&◌, ◌||◌, ◌==◌, Option, filter, map, min, max, unwrap_or}
 use Rattle.std.specs.Ordering.{int_eq}
 use Rattle.pf_model.specs.declared.Tri.{Tri}
 use Rattle.pf_model.specs.declared.Spoke.{Spoke}
@@ -10,6 +10,11 @@ use Rattle.pf_model.specs.Mesh.{Undivided, side_of, tri_of, turn_at}
 use Rattle.pf_model.specs.Lengths.{is_long}
 use Rattle.pf_model.specs.Stars.{is_on_boundary, path_start, path_end, is_neighbour}
 use Rattle.pf_model.specs.Conditions.{neighbours, least_that, inverted, is_apex}
+use Rattle.pf_mesh.specs.Star.{has_right}
+
+-- the rights of the spokes, and the lefts that are no rights
+abbrev pub names_of : List Spoke → List ℕ
+names_of ss = map (λ s. s.right) ss ++ map (λ s. s.left) (filter (λ s. not (has_right s.left ss)) ss)
 
 -- the star's path bends at u
 abbrev pub is_corner : Undivided → ℕ → List Spoke → Bool

@@ -1,5 +1,6 @@
 pub mod Exchange
 pub mod Table
+pub mod Flanks
 pub mod Listing
 pub mod Mesh
 pub mod BuildSteps
@@ -12,3 +13,5 @@ pub mod Tables
 pub mod Relist
 pub mod Run
 pub mod Rest
+pub mod TableSteps
+pub mod Hasher

@@ -1,7 +1,6 @@
 -- The star of a node as it is found by turning round the node, spoke by spoke.
-use Rattle.std.specs.Prelude.{◌≡◌, ℕ, ◌<◌, ◌==◌, Bool, true, false, List, Contains, length, Option, Some, None, ◌⊎◌}
+use Rattle.std.specs.Prelude.{◌≡◌, ℕ, ◌<◌, ◌==◌, Bool, true, List, Contains, length, Option, Some, None, ◌⊎◌}
 use Rattle.std.specs.List.{list_any}
-use Rattle.arrayvec.specs.ArrayVec.{ArrayVec}
 use Rattle.pf_model.specs.declared.Spoke.{Spoke}
 use Rattle.pf_model.specs.Rising.{IsRising}
 use Rattle.pf_model.specs.Stars.{spoke_lt, is_one_fan}
@@ -49,7 +48,7 @@ pub record IsTurned (spokes found : List Spoke) (start : ℕ) : Type 0 where
   pub before : (r s : Spoke) → Contains found r → Contains spokes s → s.left ≡ r.right → has_right s.right found ≡ true
   pub some : (s : Spoke) → Contains spokes s → (s.right ≡ start) ⊎ (s.left ≡ start) → 0 < length found
 
--- what is found of a node's spokes: all of them, where they are one fan, and nothing where they aren't
-pub record IsFan (spokes : List Spoke) (found : Option (ArrayVec Spoke)) : Type 0 where
-  pub whole : (s : ArrayVec Spoke) → found ≡ Some s → (s.items ≡ spokes) × (is_one_fan spokes ≡ true)
-  pub pinched : found ≡ None → is_one_fan spokes ≡ false
+-- what is found of a node's spokes: all of them, where they are told to be one fan
+pub record IsFan (spokes : List Spoke) (is_fan : Bool) (found : List Spoke) : Type 0 where
+  pub told : is_fan ≡ is_one_fan spokes
+  pub whole : is_fan ≡ true → found ≡ spokes

@@ -1,7 +1,6 @@
 -- What the edge table shows: which triangle stands left of each directed edge, and how many triangles each node has.
 use Rattle.std.specs.Prelude.{◌≡◌, ℕ, ◌*◌, ◌<◌, Bool, cond, ◌&&◌, ◌==◌, nat_lt, List, length, slice_index_or, unwrap_or, Option, Some, None, pos}
 use Rattle.std.specs.Option.{option_map}
-use Rattle.std.specs.declared.hash.FoldHasher.{FoldHasher}
 use Rattle.std.specs.declared.hash.BuildHasherDefault.{BuildHasherDefault}
 use Rattle.indexmap.specs.IndexMap.{IndexMap, get, index_map_len}
 use Rattle.pf_geom.specs.declared.Point.{Point}
@@ -9,12 +8,13 @@ use Rattle.pf_geom.specs.Plane.{IsInRange}
 use Rattle.pf_model.specs.declared.Tri.{Tri}
 use Rattle.pf_model.specs.Mesh.{Undivided, Side, has_corner, side_of, point_of}
 use Rattle.pf_mesh.specs.Exchange.{tally}
+use Rattle.pf_mesh.specs.declared.hasher.EdgeHasher.{EdgeHasher}
 use Rattle.pf_mesh.specs.declared.table.Edge.{Edge}
 use Rattle.pf_mesh.specs.declared.table.Left.{Left}
 use Rattle.pf_mesh.specs.declared.table.Node.{Node}
 
 abbrev pub Sides : Type 0
-Sides = IndexMap Edge Left (BuildHasherDefault FoldHasher)
+Sides = IndexMap Edge Left (BuildHasherDefault EdgeHasher)
 
 -- the two are one directed edge
 abbrev pub edge_eq : Edge → Edge → Bool

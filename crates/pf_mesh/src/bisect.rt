@@ -1,23 +1,27 @@
 //! The first condition that a bisection fails, and what it makes of the triangles at its edge.
-ghost use Rattle.std.specs.Prelude.{◌≡◌, ℕ, pos, ◌*ℤ◌, ◌+◌, ◌<◌, ◌≤◌, ◌++◌, Option, None, IfSome, int_lt, not, is_some, min, max};
+ghost use Rattle.std.specs.Prelude.{◌≡◌, ℕ, pos, ◌*ℤ◌, ◌+◌, ◌<◌, ◌≤◌, ◌++◌, Option, None, IfSome, int_lt};
 ghost use Rattle.std.specs.Option.{option_map};
 ghost use Rattle.arrayvec.specs.ArrayVec.{array_vec_len};
 ghost use Rattle.pf_geom.specs.Plane.{IsInRange, len2_of, middle_of};
 ghost use Rattle.pf_model.specs.declared.Op.TheVariants.{Bisect};
 ghost use Rattle.pf_model.specs.Clauses.{first_of};
-ghost use Rattle.pf_model.specs.Mesh.{Undivided, side_of, len2_at, place_of};
+ghost use Rattle.pf_model.specs.Mesh.{Undivided, len2_at, place_of};
 ghost use Rattle.pf_model.specs.Lengths.{min2_of};
 ghost use Rattle.pf_model.specs.Conforming.{IsConforming};
 ghost use Rattle.pf_model.specs.Conditions.{not_longest, bisect_clauses, first_failing};
-ghost use Rattle.pf_model.specs.Applied.{IsFresh, halves_of, bisected};
-ghost use Rattle.pf_mesh.specs.Exchange.{CanExchange, exchanged, whole_of};
-ghost use Rattle.pf_mesh.specs.Table.{AreInRange, Shows, side_value, side_at};
+ghost use Rattle.pf_model.specs.Applied.{halves_of};
+ghost use Rattle.pf_mesh.specs.Exchange.{whole_of};
+ghost use Rattle.pf_mesh.specs.Flanks.{AreFlanks};
+ghost use Rattle.pf_mesh.specs.Mesh.{IsKept};
+ghost use Rattle.pf_mesh.specs.Operations.{IsChange};
+ghost use Rattle.pf_mesh.specs.Table.{AreInRange, Shows, side_value};
 
-use crate::change::Change;
-use crate::table::{EdgeTable, turned};
-use arrayvec::ArrayVec;
+use crate::change::Tris;
+use crate::conditions::edge_condition;
+use crate::flanks::Flanks;
+use crate::table::{EdgeTable, Left, turned};
 use pf_geom::{Point, len2, middle};
-use pf_model::{Band, Cond, Tri};
+use pf_model::{Band, Cond};
 
 // Whether the squared distance of two points is below four times the least squared length.
 fn is_below_four(a: Point, b: Point, least: i64) -> bool
@@ -26,6 +30,34 @@ fn is_below_four(a: Point, b: Point, least: i64) -> bool
     ensures { result ≡ int_lt (len2_of a b) (pos 4 *ℤ least) }
 {
     i128::from(len2(a, b)) < 4 * i128::from(least)
+}
+
+// The triangle of the side left of the edge from `p` to `q`, and its halves, cut at `n`.
+fn halve(gone: &mut Tris, new: &mut Tris, n: u32, p: u32, q: u32, side: Option<Left>)
+    requires gone { array_vec_len gone.old < 60 }
+    requires new { array_vec_len new.old < 59 }
+    ensures gone { gone.new.items ≡ gone.old.items ++ whole_of p q (option_map side_value side) }
+    ensures new { new.new.items ≡ new.old.items ++ halves_of n p q (option_map side_value side) }
+    ensures gone_len { array_vec_len gone.new ≤ array_vec_len gone.old + 1 }
+    ensures new_len { array_vec_len new.new ≤ array_vec_len new.old + 2 }
+{
+    if let Some(left) = side {
+        gone.push(turned(p, q, left.apex, left.owner));
+        new.push(turned(p, n, left.apex, left.owner));
+        new.push(turned(n, q, left.apex, left.owner));
+    }
+}
+
+// What a bisection that passes, by the new node `n`, makes of the triangles at its edge.
+fn bisect_change(n: u32, a: u32, b: u32, flanks: Flanks, gone: &mut Tris, new: &mut Tris)
+    ensures { (m : Undivided) → IsConforming m → AreFlanks m.tris a b flanks → IsChange m n (Bisect a b) gone.new.items new.new.items }
+{
+    let (lo, hi) = (a.min(b), a.max(b));
+    let rising = flanks.rising(a, b);
+    gone.clear();
+    new.clear();
+    halve(gone, new, n, lo, hi, rising.left);
+    halve(gone, new, n, hi, lo, rising.right);
 }
 
 impl EdgeTable {
@@ -39,12 +71,12 @@ impl EdgeTable {
         is_below_four(self.place(lo), self.place(hi), least)
     }
 
-    // That the triangle on the left of the edge has a longer one.
-    fn longer_on(&self, p: u32, q: u32) -> Option<Cond>
+    // That the triangle on the left of the edge, which is the side's, has a longer one.
+    fn longer_on(&self, p: u32, q: u32, side: Option<Left>) -> Option<Cond>
         requires { AreInRange self.now.nodes.items }
-        ensures { (m : Undivided) → Shows self.now.sides self.now.nodes.items m → result ≡ not_longest m p q (side_of m.tris p q) }
+        ensures { (m : Undivided) → Shows self.now.sides self.now.nodes.items m → result ≡ not_longest m p q (option_map side_value side) }
     {
-        let Some(left) = self.side(p, q) else {
+        let Some(left) = side else {
             return None;
         };
         let longest = self.longest(p, q, left.apex);
@@ -67,17 +99,18 @@ impl EdgeTable {
     }
 
     // The conditions of a bisection alone.
-    fn halving_condition(&self, bands: &[Band], lo: u32, hi: u32) -> Option<Cond>
+    fn halving_condition(&self, bands: &[Band], lo: u32, hi: u32, flanks: Flanks) -> Option<Cond>
         requires { AreInRange self.now.nodes.items }
-        ensures { (m : Undivided) → Shows self.now.sides self.now.nodes.items m → m.bands ≡ bands.now → result ≡ first_of (bisect_clauses m lo hi) }
+        ensures { (m : Undivided) → Shows self.now.sides self.now.nodes.items m → m.bands ≡ bands.now → AreFlanks m.tris lo hi flanks
+            → result ≡ first_of (bisect_clauses m lo hi) }
     {
         if self.is_too_short(bands, lo, hi) {
             return Some(Cond::TooShort { a: lo, b: hi });
         }
-        if let Some(cond) = self.longer_on(lo, hi) {
+        if let Some(cond) = self.longer_on(lo, hi, flanks.left) {
             return Some(cond);
         }
-        if let Some(cond) = self.longer_on(hi, lo) {
+        if let Some(cond) = self.longer_on(hi, lo, flanks.right) {
             return Some(cond);
         }
         if self.middle(lo, hi).is_none() {
@@ -86,51 +119,47 @@ impl EdgeTable {
         None
     }
 
-    /// The first condition that a bisection fails.
-    pub fn bisect_condition(&self, bands: &[Band], chunk: u16, a: u32, b: u32) -> Option<Cond>
-        requires { AreInRange self.now.nodes.items }
-        ensures { (m : Undivided) → Shows self.now.sides self.now.nodes.items m → m.bands ≡ bands.now → result ≡ first_failing m chunk (Bisect a b) }
-    {
-        match self.edge_condition(chunk, a, b) {
-            Some(cond) => Some(cond),
-            None => self.halving_condition(bands, a.min(b), a.max(b)),
-        }
-    }
-
-    // The triangle on the left of the edge, and its halves, cut at `n`.
-    fn halve(
+    /// The first condition that a bisection fails, where the triangles at the edge are at hand.
+    pub fn bisect_condition(
         &self,
-        gone: &mut ArrayVec<Tri, 60>,
-        new: &mut ArrayVec<Tri, 60>,
-        n: u32,
-        p: u32,
-        q: u32,
-    )
-        requires gone { array_vec_len gone.old < 60 }
-        requires new { array_vec_len new.old < 59 }
-        ensures gone { gone.new.items ≡ gone.old.items ++ whole_of p q (side_at self.now.sides p q) }
-        ensures new { new.new.items ≡ new.old.items ++ halves_of n p q (side_at self.now.sides p q) }
-        ensures gone_len { array_vec_len gone.new ≤ array_vec_len gone.old + 1 }
-        ensures new_len { array_vec_len new.new ≤ array_vec_len new.old + 2 }
+        bands: &[Band],
+        chunk: u16,
+        a: u32,
+        b: u32,
+        flanks: Flanks,
+    ) -> Option<Cond>
+        requires { AreInRange self.now.nodes.items }
+        ensures { (m : Undivided) → Shows self.now.sides self.now.nodes.items m → m.bands ≡ bands.now → AreFlanks m.tris a b flanks
+            → result ≡ first_failing m chunk (Bisect a b) }
     {
-        if let Some(left) = self.side(p, q) {
-            gone.push(turned(p, q, left.apex, left.owner));
-            new.push(turned(p, n, left.apex, left.owner));
-            new.push(turned(n, q, left.apex, left.owner));
+        match edge_condition(chunk, a, b, flanks) {
+            Some(cond) => Some(cond),
+            None => self.halving_condition(bands, a.min(b), a.max(b), flanks.rising(a, b)),
         }
     }
 
-    /// What a bisection by the new node `n` makes of the triangles at its edge.
-    pub fn bisect_change(&self, n: u32, a: u32, b: u32) -> Change
-        ensures { (m : Undivided) (chunk ticket : ℕ) → IsConforming m → Shows self.now.sides self.now.nodes.items m
-            → IsFresh m ticket → m.first_new + ticket ≡ n → first_failing m chunk (Bisect a b) ≡ None
-            → CanExchange result.gone.items result.new.items m.tris
-            × (exchanged result.gone.items result.new.items m.tris ≡ (bisected m n (min a b) (max a b)).tris) }
+    /// The first condition that a bisection fails, or `None` where it passes. Then the lists have what it
+    /// makes of the triangles at its edge, by the new node `n`. What they held doesn't matter.
+    pub fn bisect_plan(
+        &self,
+        bands: &[Band],
+        chunk: u16,
+        n: u32,
+        a: u32,
+        b: u32,
+        gone: &mut Tris,
+        new: &mut Tris,
+    ) -> Option<Cond>
+        requires { AreInRange self.now.nodes.items }
+        ensures cond { (m : Undivided) → IsKept self.now.sides self.now.nodes.items m → m.bands ≡ bands.now → result ≡ first_failing m chunk (Bisect a b) }
+        ensures change { (m : Undivided) → IsKept self.now.sides self.now.nodes.items m → result ≡ None
+            → IsChange m n (Bisect a b) gone.new.items new.new.items }
     {
-        let (lo, hi) = (a.min(b), a.max(b));
-        let (mut gone, mut new) = (ArrayVec::new(), ArrayVec::new());
-        self.halve(&mut gone, &mut new, n, lo, hi);
-        self.halve(&mut gone, &mut new, n, hi, lo);
-        Change { gone, new }
+        let flanks = self.flanks(a, b);
+        if let Some(cond) = self.bisect_condition(bands, chunk, a, b, flanks) {
+            return Some(cond);
+        }
+        bisect_change(n, a, b, flanks, gone, new);
+        None
     }
 }

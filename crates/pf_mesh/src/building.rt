@@ -176,11 +176,11 @@ pub fn build(alloc: Global, points: &[Point], tris: &[[u32; 3]]) -> Result<Mesh,
     requires few_points { length points.now ≤ 1048576 }
     requires few_tris { length tris.now ≤ 2097152 }
     requires in_range { All IsInRange points.now }
-    ensures ok { IfOk result (λ m. built points.now tris.now ≡ Ok m) }
+    ensures ok { IfOk result (λ m. built points.now tris.now ≡ Ok m.mesh) }
     ensures fault { (e : BuildErr) → result ≡ Err e → e ≢ BuildErr.Memory → built points.now tris.now ≡ Err e }
-    ensures conforming { IfOk result (λ m. IsConforming m) }
+    ensures conforming { IfOk result (λ m. IsConforming m.mesh) }
     // The list has a place for each triangle, as `with_tables` asks.
-    ensures listed { IfOk result (λ m. AreListed tris.now m.tris) }
+    ensures listed { IfOk result (λ m. AreListed tris.now m.mesh.tris) }
 {
     let Ok(mut table) = EdgeTable::of_points(alloc, points, tris.len()) else {
         return Err(BuildErr::Memory);

@@ -6,8 +6,10 @@ ghost use Rattle.pf_model.specs.Clauses.{first_of};
 ghost use Rattle.pf_model.specs.Mesh.{Undivided, side_of};
 ghost use Rattle.pf_model.specs.Conditions.{is_owned, is_positive, apex_or, edge_clauses, flip_clauses, first_failing};
 ghost use Rattle.pf_model.specs.declared.Op.TheVariants.{Flip};
+ghost use Rattle.pf_mesh.specs.Flanks.{AreFlanks};
 ghost use Rattle.pf_mesh.specs.Table.{side_value, AreInRange, Shows};
 
+use crate::flanks::Flanks;
 use crate::table::{EdgeTable, Left};
 use pf_geom::{Point, len2, orient};
 use pf_model::Cond;
@@ -43,30 +45,30 @@ pub fn is_shorter(a: Point, b: Point, c: Point, d: Point) -> bool
     len2(a, b) < len2(c, d)
 }
 
-impl EdgeTable {
-    // The conditions of every operation at an edge.
-    pub(crate) fn edge_condition(&self, chunk: u16, a: u32, b: u32) -> Option<Cond>
-        ensures { (m : Undivided) → Shows self.now.sides self.now.nodes.items m → result ≡ first_of (edge_clauses m chunk a b) }
-    {
-        if a == b || !self.is_edge(a, b) {
-            return Some(Cond::NoEdge);
-        }
-        if !(is_owned_by(self.side(a, b), chunk) || is_owned_by(self.side(b, a), chunk)) {
-            return Some(Cond::Foreign);
-        }
-        None
+/// The conditions of every operation at an edge.
+pub fn edge_condition(chunk: u16, a: u32, b: u32, flanks: Flanks) -> Option<Cond>
+    ensures { (m : Undivided) → AreFlanks m.tris a b flanks → result ≡ first_of (edge_clauses m chunk a b) }
+{
+    if a == b || !flanks.is_edge() {
+        return Some(Cond::NoEdge);
     }
+    if !(is_owned_by(flanks.left, chunk) || is_owned_by(flanks.right, chunk)) {
+        return Some(Cond::Foreign);
+    }
+    None
+}
 
-    // The conditions of a flip alone.
-    pub(crate) fn turning_condition(&self, lo: u32, hi: u32) -> Option<Cond>
+impl EdgeTable {
+    // The conditions of a flip alone, where the triangles at the edge are at hand.
+    pub(crate) fn turning_between(&self, lo: u32, hi: u32, flanks: Flanks) -> Option<Cond>
         requires { AreInRange self.now.nodes.items }
-        ensures { (m : Undivided) → Shows self.now.sides self.now.nodes.items m
+        ensures { (m : Undivided) → Shows self.now.sides self.now.nodes.items m → AreFlanks m.tris lo hi flanks
             → result ≡ first_of (flip_clauses m lo hi (apex_or (side_of m.tris lo hi)) (apex_or (side_of m.tris hi lo))) }
     {
-        let Some(left) = self.side(lo, hi) else {
+        let Some(left) = flanks.left else {
             return Some(Cond::OnBoundary);
         };
-        let Some(right) = self.side(hi, lo) else {
+        let Some(right) = flanks.right else {
             return Some(Cond::OnBoundary);
         };
         let (c, d) = (left.apex, right.apex);
@@ -88,14 +90,15 @@ impl EdgeTable {
         None
     }
 
-    // The first condition that a flip fails.
-    pub fn flip_condition(&self, chunk: u16, a: u32, b: u32) -> Option<Cond>
+    // The first condition that a flip fails, where the triangles at the edge are at hand.
+    pub fn flip_condition(&self, chunk: u16, a: u32, b: u32, flanks: Flanks) -> Option<Cond>
         requires { AreInRange self.now.nodes.items }
-        ensures { (m : Undivided) → Shows self.now.sides self.now.nodes.items m → result ≡ first_failing m chunk (Flip a b) }
+        ensures { (m : Undivided) → Shows self.now.sides self.now.nodes.items m → AreFlanks m.tris a b flanks
+            → result ≡ first_failing m chunk (Flip a b) }
     {
-        match self.edge_condition(chunk, a, b) {
+        match edge_condition(chunk, a, b, flanks) {
             Some(cond) => Some(cond),
-            None => self.turning_condition(a.min(b), a.max(b)),
+            None => self.turning_between(a.min(b), a.max(b), flanks.rising(a, b)),
         }
     }
 }

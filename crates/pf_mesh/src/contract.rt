@@ -1,28 +1,30 @@
 //! The first condition that a contraction fails, by the edge table, and the triangles that it exchanges.
-ghost use Rattle.std.specs.Prelude.{◌≡◌, ℕ, ◌≤◌, ◌||◌, ◌&&◌, ◌==◌, not, pos, length, min, Option, None, true};
+ghost use Rattle.std.specs.Prelude.{◌≡◌, ℕ, Bool, ◌≤◌, ◌||◌, ◌&&◌, ◌==◌, not, pos, length, List, min, Option, None};
 ghost use Rattle.std.specs.Option.{option_map};
 ghost use Rattle.std.specs.Ordering.{int_eq};
 ghost use Rattle.pf_geom.specs.Plane.{IsInRange, orient_of};
 ghost use Rattle.pf_model.specs.Clauses.{first_of};
 ghost use Rattle.pf_model.specs.declared.Op.TheVariants.{Contract};
-ghost use Rattle.pf_model.specs.Mesh.{Undivided, is_edge, turn_at};
+ghost use Rattle.pf_model.specs.Mesh.{Undivided, side_of, turn_at};
 ghost use Rattle.pf_model.specs.Conforming.{IsConforming};
 ghost use Rattle.pf_model.specs.Lengths.{is_long};
 ghost use Rattle.pf_model.specs.Stars.{spokes_of, is_neighbour};
 ghost use Rattle.pf_model.specs.Conditions.{is_apex, is_positive, neighbours, lesser, least_that, inverted, first_failing};
 ghost use Rattle.pf_mesh.specs.Table.{side_value, AreInRange, Shows};
-ghost use Rattle.pf_model.specs.Applied.{contracted};
-ghost use Rattle.pf_mesh.specs.Exchange.{CanExchange, exchanged};
-ghost use Rattle.pf_mesh.specs.Star.{IsFan};
+ghost use Rattle.pf_mesh.specs.Flanks.{AreFlanks};
+ghost use Rattle.pf_mesh.specs.Mesh.{IsKept};
+ghost use Rattle.pf_mesh.specs.Operations.{IsChange};
+ghost use Rattle.pf_model.specs.declared.Tri.{Tri};
 ghost use Rattle.pf_mesh.specs.Contract.{is_corner, is_off_boundary, is_link_node, is_too_long, star_clauses, star_tris, moved_tris, is_without};
 
-use crate::change::Change;
-use crate::conditions::turns_left;
-use crate::star::{Spokes, first_right, last_left};
+use crate::change::Tris;
+use crate::conditions::{edge_condition, turns_left};
+use crate::flanks::Flanks;
+use crate::scratch::{Names, Scratch, StarLists};
+use crate::star::{first_right, is_right, last_left};
 use crate::table::{EdgeTable, Left, turned};
-use arrayvec::ArrayVec;
 use pf_geom::{Point, orient};
-use pf_model::{Band, Cond, Spoke, Tri};
+use pf_model::{Band, Cond, Spoke};
 
 /// A node with more triangles isn't contracted.
 const MOST_TRIANGLES: u64 = 60;
@@ -42,6 +44,13 @@ fn is_apex_of(side: Option<Left>, x: u32) -> bool
         Some(left) => left.apex == x,
         None => false,
     }
+}
+
+// Whether the node is an apex of the edge with these flanks.
+fn is_an_apex(flanks: Flanks, x: u32) -> bool
+    ensures { (ts : List Tri) (u v : ℕ) → AreFlanks ts u v flanks → result ≡ (is_apex x (side_of ts u v) || is_apex x (side_of ts v u)) }
+{
+    is_apex_of(flanks.left, x) || is_apex_of(flanks.right, x)
 }
 
 // Whether the three points lie on one line.
@@ -64,19 +73,20 @@ fn is_star_off(v: u32, star: &[Spoke]) -> bool
     }
 }
 
-// The rights of the star, and then its lefts.
-fn names_around(star: &[Spoke]) -> ArrayVec<u32, 120>
+// The neighbours of the star's node, each once, in place of what the list held.
+fn names_around(star: &[Spoke], names: &mut Names)
     requires { length star.now ≤ 60 }
-    ensures { result.items ≡ neighbours star.now }
+    ensures { (p : ℕ → Bool) → least_that p names.new.items ≡ least_that p (neighbours star.now) }
 {
-    let mut names = ArrayVec::new();
+    names.clear();
     for s in star {
         names.push(s.right);
     }
     for s in star {
-        names.push(s.left);
+        if !is_right(star, s.left) {
+            names.push(s.left);
+        }
     }
-    names
 }
 
 // The lesser of two names, where there is a first.
@@ -89,30 +99,28 @@ fn lesser_of(least: Option<u32>, n: u32) -> Option<u32>
     }
 }
 
-// The triangles of the star of `u`.
-fn triangles_of(u: u32, star: &[Spoke]) -> ArrayVec<Tri, 60>
+// The triangles of the star of `u`, in place of what the list held.
+fn triangles_of(u: u32, star: &[Spoke], tris: &mut Tris)
     requires { length star.now ≤ 60 }
-    ensures { result.items ≡ star_tris u star.now }
+    ensures { tris.new.items ≡ star_tris u star.now }
 {
-    let mut tris = ArrayVec::new();
+    tris.clear();
     for s in star {
         tris.push(turned(u, s.right, s.left, s.owner));
     }
-    tris
 }
 
-// Those of the star without `v`, with `v` in the node's place.
-fn triangles_moved(v: u32, star: &[Spoke]) -> ArrayVec<Tri, 60>
+// Those of the star without `v`, with `v` in the node's place, in place of what the list held.
+fn triangles_moved(v: u32, star: &[Spoke], tris: &mut Tris)
     requires { length star.now ≤ 60 }
-    ensures { result.items ≡ moved_tris v star.now }
+    ensures { tris.new.items ≡ moved_tris v star.now }
 {
-    let mut tris = ArrayVec::new();
+    tris.clear();
     for s in star {
         if is_spoke_without(s, v) {
             tris.push(turned(v, s.right, s.left, s.owner));
         }
     }
-    tris
 }
 
 impl EdgeTable {
@@ -134,23 +142,25 @@ impl EdgeTable {
     fn is_beside(&self, x: u32, v: u32) -> bool
         ensures { (m : Undivided) → IsConforming m → Shows self.now.sides self.now.nodes.items m → result ≡ is_neighbour x (spokes_of m v) }
     {
-        self.is_edge(x, v)
+        x != v && self.is_edge(x, v)
     }
 
-    // Whether the node is a neighbour of `v`, and no apex of the edge from `u` to `v`.
-    fn is_link(&self, u: u32, v: u32, x: u32) -> bool
-        ensures { (m : Undivided) → IsConforming m → Shows self.now.sides self.now.nodes.items m → result ≡ is_link_node m u v (spokes_of m v) x }
+    // Whether the node is a neighbour of `v`, and no apex of the edge to `v`, which takes no look-up.
+    fn is_link(&self, v: u32, x: u32, flanks: Flanks) -> bool
+        ensures { (m : Undivided) (u : ℕ) → IsConforming m → Shows self.now.sides self.now.nodes.items m → AreFlanks m.tris u v flanks
+            → result ≡ is_link_node m u v (spokes_of m v) x }
     {
-        self.is_beside(x, v) && !(is_apex_of(self.side(u, v), x) || is_apex_of(self.side(v, u), x))
+        !is_an_apex(flanks, x) && self.is_beside(x, v)
     }
 
-    // The least of these names that is a neighbour of `v`, and no apex of the edge from `u` to `v`.
-    fn least_link(&self, u: u32, v: u32, names: &[u32]) -> Option<u32>
-        ensures { (m : Undivided) → IsConforming m → Shows self.now.sides self.now.nodes.items m → result ≡ least_that (is_link_node m u v (spokes_of m v)) names.now }
+    // The least of these names that is a neighbour of `v`, and no apex of the edge to `v`.
+    fn least_link(&self, v: u32, flanks: Flanks, names: &[u32]) -> Option<u32>
+        ensures { (m : Undivided) (u : ℕ) → IsConforming m → Shows self.now.sides self.now.nodes.items m → AreFlanks m.tris u v flanks
+            → result ≡ least_that (is_link_node m u v (spokes_of m v)) names.now }
     {
         let mut least = None;
         for x in names {
-            if self.is_link(u, v, *x) {
+            if self.is_link(v, *x, flanks) {
                 least = lesser_of(least, *x);
             }
         }
@@ -187,7 +197,7 @@ impl EdgeTable {
         requires { AreInRange self.now.nodes.items }
         ensures { (m : Undivided) → IsConforming m → Shows self.now.sides self.now.nodes.items m → m.bands ≡ bands.now → result ≡ is_too_long m v (spokes_of m v) x }
     {
-        x != v && !self.is_beside(x, v) && self.is_long(bands, v, x)
+        x != v && self.is_long(bands, v, x) && !self.is_beside(x, v)
     }
 
     // The least of these names to which a new edge from `v` would be too long.
@@ -205,10 +215,19 @@ impl EdgeTable {
     }
 
     // The conditions on the star of the node that goes.
-    fn star_condition(&self, bands: &[Band], u: u32, v: u32, star: &[Spoke]) -> Option<Cond>
+    fn star_condition(
+        &self,
+        bands: &[Band],
+        u: u32,
+        v: u32,
+        flanks: Flanks,
+        star: &[Spoke],
+        names: &mut Names,
+    ) -> Option<Cond>
         requires in_range { AreInRange self.now.nodes.items }
         requires few { length star.now ≤ 60 }
-        ensures { (m : Undivided) → IsConforming m → Shows self.now.sides self.now.nodes.items m → m.bands ≡ bands.now → result ≡ first_of (star_clauses m u v star.now (spokes_of m v)) }
+        ensures { (m : Undivided) → IsConforming m → Shows self.now.sides self.now.nodes.items m → m.bands ≡ bands.now → AreFlanks m.tris u v flanks
+            → result ≡ first_of (star_clauses m u v star.now (spokes_of m v)) }
     {
         if self.is_bent(u, star) {
             return Some(Cond::Corner);
@@ -216,8 +235,8 @@ impl EdgeTable {
         if is_star_off(v, star) {
             return Some(Cond::OffBoundary);
         }
-        let names = names_around(star);
-        if let Some(x) = self.least_link(u, v, names.as_slice()) {
+        names_around(star, names);
+        if let Some(x) = self.least_link(v, flanks, names.as_slice()) {
             return Some(Cond::LinkNode { x });
         }
         if let Some(cond) = self.first_inverted(v, star) {
@@ -232,49 +251,65 @@ impl EdgeTable {
         }
     }
 
+    // The first condition that the contraction of `u` onto `v` fails, or `None` where it passes. Then the
+    // lists have the star of `u`. What they held doesn't matter.
+    fn contract_star(
+        &self,
+        bands: &[Band],
+        chunk: u16,
+        u: u32,
+        v: u32,
+        lists: &mut StarLists,
+    ) -> Option<Cond>
+        requires { AreInRange self.now.nodes.items }
+        ensures cond { (m : Undivided) → IsConforming m → Shows self.now.sides self.now.nodes.items m → m.bands ≡ bands.now
+            → result ≡ first_failing m chunk (Contract u v) }
+        ensures star { (m : Undivided) → IsConforming m → Shows self.now.sides self.now.nodes.items m → result ≡ None
+            → lists.new.star.items ≡ spokes_of m u }
+    {
+        let flanks = self.flanks(u, v);
+        if let Some(cond) = edge_condition(chunk, u, v, flanks) {
+            return Some(cond);
+        }
+        if self.triangles(u) > MOST_TRIANGLES {
+            return Some(Cond::TooWide);
+        }
+        if !self.find_fan(u, v, flanks.left, &mut lists.star, &mut lists.left) {
+            return Some(Cond::Pinched);
+        }
+        self.star_condition(bands, u, v, flanks, &lists.star, &mut lists.names)
+    }
+
     /// The first condition that the contraction of `u` onto `v` fails, or `None` where it passes. Takes no
     /// memory.
     pub fn contract_condition(&self, bands: &[Band], chunk: u16, u: u32, v: u32) -> Option<Cond>
         requires { AreInRange self.now.nodes.items }
         ensures { (m : Undivided) → IsConforming m → Shows self.now.sides self.now.nodes.items m → m.bands ≡ bands.now → result ≡ first_failing m chunk (Contract u v) }
     {
-        if let Some(cond) = self.edge_condition(chunk, u, v) {
+        let mut lists = StarLists::new();
+        self.contract_star(bands, chunk, u, v, &mut lists)
+    }
+
+    /// The first condition that the contraction of `u` onto `v` fails, or `None` where it passes. Then the
+    /// change is what it makes of the triangles. What the lists held doesn't matter.
+    pub fn contract_plan(
+        &self,
+        bands: &[Band],
+        chunk: u16,
+        u: u32,
+        v: u32,
+        scratch: &mut Scratch,
+    ) -> Option<Cond>
+        requires { AreInRange self.now.nodes.items }
+        ensures cond { (m : Undivided) → IsKept self.now.sides self.now.nodes.items m → m.bands ≡ bands.now → result ≡ first_failing m chunk (Contract u v) }
+        ensures change { (m : Undivided) (n : ℕ) → IsKept self.now.sides self.now.nodes.items m → result ≡ None
+            → IsChange m n (Contract u v) scratch.new.change.gone.items scratch.new.change.new.items }
+    {
+        if let Some(cond) = self.contract_star(bands, chunk, u, v, &mut scratch.lists) {
             return Some(cond);
         }
-        if self.triangles(u) > MOST_TRIANGLES {
-            return Some(Cond::TooWide);
-        }
-        match self.fan(u, v) {
-            Some(star) => self.star_condition(bands, u, v, star.as_slice()),
-            None => Some(Cond::Pinched),
-        }
-    }
-
-    // The triangles at `u`, where they are one fan of at most 60.
-    fn narrow_fan(&self, u: u32, v: u32) -> Option<Spokes>
-        ensures { (m : Undivided) → IsConforming m → Shows self.now.sides self.now.nodes.items m → is_edge m.tris u v ≡ true → length (spokes_of m u) ≤ 60 → IsFan (spokes_of m u) result }
-    {
-        if self.triangles(u) > MOST_TRIANGLES {
-            return None;
-        }
-        self.fan(u, v)
-    }
-
-    /// The triangles that give way in a contraction of `u` onto `v` that passes, and those that come. Takes
-    /// no memory.
-    pub fn contract_change(&self, u: u32, v: u32) -> Change
-        ensures { (m : Undivided) (chunk : ℕ) → IsConforming m → Shows self.now.sides self.now.nodes.items m → first_failing m chunk (Contract u v) ≡ None
-            → CanExchange result.gone.items result.new.items m.tris × (exchanged result.gone.items result.new.items m.tris ≡ (contracted m u v).tris) }
-    {
-        match self.narrow_fan(u, v) {
-            Some(star) => Change {
-                gone: triangles_of(u, star.as_slice()),
-                new: triangles_moved(v, star.as_slice()),
-            },
-            None => Change {
-                gone: ArrayVec::new(),
-                new: ArrayVec::new(),
-            },
-        }
+        triangles_of(u, &scratch.lists.star, &mut scratch.change.gone);
+        triangles_moved(v, &scratch.lists.star, &mut scratch.change.new);
+        None
     }
 }

@@ -76,6 +76,7 @@ fn enter_all(tris: &mut Vec<Tri>, new: &[Tri])
     requires fit { AreFit new.now tris.old.items }
     requires room { vec_len tris.old + length new.now ≤ vec_capacity tris.old }
     ensures entered { tris.new.items ≡ insert_all_by tri_lt new.now tris.old.items }
+    ensures len { vec_len tris.new ≡ vec_len tris.old + length new.now }
     ensures capacity { vec_capacity tris.old ≤ vec_capacity tris.new }
 {
     let mut left = new.len();
@@ -91,6 +92,7 @@ pub fn exchange_listed(tris: &mut Vec<Tri>, gone: &[Tri], new: &[Tri])
     requires can { CanExchange gone.now new.now tris.old.items }
     requires room { vec_len tris.old + length new.now ≤ vec_capacity tris.old }
     ensures given_way { tris.new.items ≡ exchanged gone.now new.now tris.old.items }
+    ensures len { vec_len tris.new ≤ vec_len tris.old + length new.now }
     ensures capacity { vec_capacity tris.old ≤ vec_capacity tris.new }
 {
     strike_all(tris, gone);

@@ -1,5 +1,5 @@
 //! The undivided mesh.
-ghost use Rattle.std.specs.Prelude.{◌≡◌, ℕ, ◌+◌, ◌<◌, ◌≤◌, ◌↔◌, All, length, take, Option, Some, None, Ok, Err, OnOk, OnErr, IfOk, IfErr};
+ghost use Rattle.std.specs.Prelude.{◌≡◌, ℕ, ◌+◌, ◌<◌, ◌≤◌, ◌↔◌, All, length, take, Option, Some, None, Err, OnOk, OnErr, IsOkAnd, IfOk, IfErr};
 ghost use Rattle.pf_geom.specs.Plane.{IsInRange};
 ghost use Rattle.pf_model.specs.declared.Cond.{Cond};
 ghost use Rattle.pf_model.specs.Mesh.{point_of};
@@ -12,13 +12,14 @@ ghost use Rattle.pf_model.specs.Sums.{area2_of};
 ghost use Rattle.pf_model.specs.Tables.{AreListed, with_tables_of};
 ghost use Rattle.pf_model.specs.Wishes.{rest_of};
 ghost use Rattle.pf_mesh.specs.Mesh.{mesh_of, IsKept};
-ghost use Rattle.pf_mesh.specs.Operations.{CanApply};
+ghost use Rattle.pf_mesh.specs.Operations.{CanApply, IsChange};
 ghost use Rattle.pf_mesh.specs.Run.{HasTickets, ArePassed, IsStopped};
 
-use crate::listing::exchange_listed;
+use crate::change::Change;
+use crate::parts;
 use crate::relist::{relist_sites, relist_tris};
 use crate::run::{RunErr, run};
-use crate::sites::change_sites;
+use crate::scratch::Scratch;
 use crate::table::EdgeTable;
 use crate::tables::{own_listed, own_tris};
 use pf_geom::{NoMemory, Point};
@@ -26,6 +27,9 @@ use pf_model::{Band, Cond, Entry, Op, RestLine, Site, Tri};
 use std::alloc::Global;
 use std::marker::Model;
 use thiserror::Error;
+
+// How many names there are, those of the points and one for each operation.
+const MOST_NAMES: usize = 1_048_576;
 
 /// Why an entry isn't applied.
 #[derive(Clone, Copy, Debug, PartialEq, Eq, Error)]
@@ -52,12 +56,16 @@ pub struct Mesh {
 }
 
 impl Model for Mesh {
-    ghost use Rattle.pf_model.specs.Mesh.{Undivided};
-    ghost use Rattle.pf_mesh.specs.Mesh.{mesh_of, IsKept};
+    ghost use Rattle.std.specs.Prelude.{◌-◌, vec_len, vec_capacity};
+    ghost use Rattle.indexmap.specs.IndexMap.{spare};
+    ghost use Rattle.pf_mesh.specs.Mesh.{MeshValue, mesh_of, room_of, IsKept};
 
-    ghost Value = { Undivided };
+    ghost Value = { MeshValue };
 
-    ghost view = { λ a. mesh_of a.first_new a.sites.items a.tris.items a.bands.items a.chunks };
+    ghost view = { λ a. record {
+      mesh = mesh_of a.first_new a.sites.items a.tris.items a.bands.items a.chunks;
+      spare = room_of (vec_capacity a.table.nodes) (spare a.table.sides) (vec_capacity a.tris - vec_len a.tris) (vec_capacity a.sites - vec_len a.sites);
+    } };
 
     ghost invariant = { λ a. IsKept a.table.sides a.table.nodes.items (mesh_of a.first_new a.sites.items a.tris.items a.bands.items a.chunks) };
 }
@@ -73,7 +81,7 @@ impl Mesh {
         chunks: u16,
     ) -> Mesh
         requires { IsKept table.sides table.nodes.items (mesh_of first_new sites.items tris.items bands.items chunks) }
-        ensures { result ≡ mesh_of first_new sites.items tris.items bands.items chunks }
+        ensures { result.mesh ≡ mesh_of first_new sites.items tris.items bands.items chunks }
     {
         Mesh {
             first_new,
@@ -87,24 +95,24 @@ impl Mesh {
 
     /// The first name that is given to a new node.
     pub fn first_new(&self) -> u32
-        ensures value { result ≡ self.now.first_new }
-        ensures conforming { IsConforming self.now }
+        ensures value { result ≡ self.now.mesh.first_new }
+        ensures conforming { IsConforming self.now.mesh }
     {
         self.first_new
     }
 
     /// Where a node stands: `None` exactly where the name isn't live.
     pub fn site(&self, n: u32) -> Option<Point>
-        ensures value { result ≡ point_of self.now.sites n }
-        ensures conforming { IsConforming self.now }
+        ensures value { result ≡ point_of self.now.mesh.sites n }
+        ensures conforming { IsConforming self.now.mesh }
     {
         self.table.site(n)
     }
 
     /// The live nodes, by rising name.
     pub fn sites(&self) -> &[Site]
-        ensures value { result.now ≡ self.now.sites }
-        ensures conforming { IsConforming self.now }
+        ensures value { result.now ≡ self.now.mesh.sites }
+        ensures conforming { IsConforming self.now.mesh }
     {
         let _ = &self.table;
         &self.sites
@@ -112,24 +120,24 @@ impl Mesh {
 
     /// The triangles, by rising corners.
     pub fn tris(&self) -> &[Tri]
-        ensures value { result.now ≡ self.now.tris }
-        ensures conforming { IsConforming self.now }
+        ensures value { result.now ≡ self.now.mesh.tris }
+        ensures conforming { IsConforming self.now.mesh }
     {
         &self.tris
     }
 
     /// The rows of the size table, with the default last.
     pub fn bands(&self) -> &[Band]
-        ensures value { result.now ≡ self.now.bands }
-        ensures conforming { IsConforming self.now }
+        ensures value { result.now ≡ self.now.mesh.bands }
+        ensures conforming { IsConforming self.now.mesh }
     {
         &self.bands
     }
 
     /// The number of chunks.
     pub fn chunks(&self) -> u16
-        ensures value { result ≡ self.now.chunks }
-        ensures conforming { IsConforming self.now }
+        ensures value { result ≡ self.now.mesh.chunks }
+        ensures conforming { IsConforming self.now.mesh }
     {
         self.chunks
     }
@@ -146,12 +154,12 @@ impl Mesh {
         chunks: u16,
         bands: Vec<Band>,
     ) -> Result<Mesh, NoMemory>
-        requires listed { AreListed listed.now self.tris }
+        requires listed { AreListed listed.now self.mesh.tris }
         requires as_many { length owners.items ≡ length listed.now }
         requires owned { All (λ owner. owner < chunks) owners.items }
         requires default { HasDefault bands.items }
-        ensures value { result ≡ Ok (with_tables_of listed.now owners.items chunks bands.items self) }
-        ensures conforming { IfOk result (λ m. IsConforming m) }
+        ensures value { IsOkAnd result (λ m. m.mesh ≡ with_tables_of listed.now owners.items chunks bands.items self.mesh) }
+        ensures conforming { IfOk result (λ m. IsConforming m.mesh) }
     {
         let Mesh {
             first_new,
@@ -167,8 +175,8 @@ impl Mesh {
 
     /// The first condition that an operation fails, or `None` where it passes. Takes no memory.
     pub fn first_fail(&self, chunk: u16, op: Op) -> Option<Cond>
-        requires { AreEndsLive self.now op }
-        ensures { result ≡ first_failing self.now chunk op }
+        requires { AreEndsLive self.now.mesh op }
+        ensures { result ≡ first_failing self.now.mesh chunk op }
     {
         self.table.condition(&self.bands, chunk, op)
     }
@@ -181,7 +189,7 @@ impl Mesh {
     /// For F triangles it takes time in proportion to F log F, expected, however long the walks are: where one
     /// ends is noted for each edge on its way.
     pub fn rest(&self, alloc: Global) -> Result<Vec<RestLine>, NoMemory>
-        ensures { IfOk result (λ lines. lines.items ≡ rest_of self.now) }
+        ensures { IfOk result (λ lines. lines.items ≡ rest_of self.now.mesh) }
     {
         let lines = self.table.rest(alloc, &self.tris, &self.bands)?;
         Ok(lines)
@@ -189,8 +197,8 @@ impl Mesh {
 
     // The first end of an operation that isn't live.
     fn gone_node(&self, op: Op) -> Option<u32>
-        ensures value { result ≡ gone_end self.now op }
-        ensures conforming { IsConforming self.now }
+        ensures value { result ≡ gone_end self.now.mesh op }
+        ensures conforming { IsConforming self.now.mesh }
     {
         let (first, second) = ends(op);
         if self.site(first).is_none() {
@@ -208,29 +216,81 @@ impl Mesh {
     /// `Gone` names the first end, as written, that isn't live; else `Refused` has the first condition
     /// that the operation fails. `Memory` says that there was no room for the change.
     pub fn apply(&mut self, e: &Entry) -> Result<(), ApplyErr>
-        requires fresh { IsFresh self.old e.now.ticket }
-        requires named { self.old.first_new + e.now.ticket < 1048576 }
-        ensures applied { OnOk result (self.new ≡ applied self.old e.now) }
-        ensures passes { OnOk result (first_failing self.old e.now.chunk e.now.op ≡ None) }
-        ensures gone { (n : ℕ) → (result ≡ Err (ApplyErr.Gone n)) ↔ (gone_end self.old e.now.op ≡ Some n) }
+        requires fresh { IsFresh self.old.mesh e.now.ticket }
+        requires named { self.old.mesh.first_new + e.now.ticket < 1048576 }
+        ensures applied { OnOk result (self.new.mesh ≡ applied self.old.mesh e.now) }
+        ensures passes { OnOk result (first_failing self.old.mesh e.now.chunk e.now.op ≡ None) }
+        ensures gone { (n : ℕ) → (result ≡ Err (ApplyErr.Gone n)) ↔ (gone_end self.old.mesh e.now.op ≡ Some n) }
         ensures refused { (cond : Cond) → (result ≡ Err (ApplyErr.Refused cond))
-            ↔ ((gone_end self.old e.now.op ≡ None) × (first_failing self.old e.now.chunk e.now.op ≡ Some cond)) }
-        ensures err { OnErr result (self.new ≡ self.old) }
+            ↔ ((gone_end self.old.mesh e.now.op ≡ None) × (first_failing self.old.mesh e.now.chunk e.now.op ≡ Some cond)) }
+        ensures err { OnErr result (self.new.mesh ≡ self.old.mesh) }
 
         // An operation keeps the mesh conforming, and twice its area.
-        ensures conforming { IsConforming self.new }
-        ensures area { area2_of self.new ≡ area2_of self.old }
+        ensures conforming { IsConforming self.new.mesh }
+        ensures area { area2_of self.new.mesh ≡ area2_of self.old.mesh }
     {
         if let Some(node) = self.gone_node(e.op) {
             return Err(ApplyErr::Gone { node });
         }
-        if let Some(cond) = self.first_fail(e.chunk, e.op) {
+        let name = self.first_new() + e.ticket;
+        let mut scratch = Scratch::new();
+        if let Some(cond) = self.plan(e.chunk, name, e.op, &mut scratch) {
             return Err(ApplyErr::Refused { cond });
         }
-        match self.perform(self.first_new() + e.ticket, e.op) {
+        match self.perform(name, e.op, &scratch.change) {
             Ok(()) => Ok(()),
             Err(NoMemory) => Err(ApplyErr::Memory),
         }
+    }
+
+    /// Makes room for so many operations, so that `apply_spare` can apply them. The mesh stays as it is.
+    ///
+    /// Each operation gets room for the 60 triangles that it can bring at most, and any new name gets its
+    /// place: they take 16 MB of address space, which stay untouched until the names are used. `NoMemory`
+    /// says that there was no such room.
+    pub fn reserve(&mut self, ops: u32) -> Result<(), NoMemory>
+        ensures ok { OnOk result (ops ≤ self.new.spare) }
+        ensures same { self.new.mesh ≡ self.old.mesh }
+        ensures conforming { IsConforming self.new.mesh }
+    {
+        parts::reserve(
+            &mut self.table,
+            &mut self.sites,
+            &mut self.tris,
+            MOST_NAMES,
+            60 * ops as usize,
+            ops as usize,
+        )?;
+        Ok(())
+    }
+
+    /// Does what `apply` does, where both ends are live, the operation passes and there is room for it. Takes
+    /// no memory, and uses room for at most one operation.
+    pub fn apply_spare(&mut self, e: &Entry)
+        requires fresh { IsFresh self.old.mesh e.now.ticket }
+        requires named { self.old.mesh.first_new + e.now.ticket < 1048576 }
+        requires live { AreEndsLive self.old.mesh e.now.op }
+        requires passes { first_failing self.old.mesh e.now.chunk e.now.op ≡ None }
+        requires room { 1 ≤ self.old.spare }
+        ensures applied { self.new.mesh ≡ applied self.old.mesh e.now }
+        ensures spare { self.old.spare ≤ self.new.spare + 1 }
+
+        // An operation keeps the mesh conforming, and twice its area.
+        ensures conforming { IsConforming self.new.mesh }
+        ensures area { area2_of self.new.mesh ≡ area2_of self.old.mesh }
+    {
+        let name = self.first_new() + e.ticket;
+        let mut scratch = Scratch::new();
+        self.plan(e.chunk, name, e.op, &mut scratch);
+        let _ = scratch.change.new.len();
+        parts::perform_within(
+            &mut self.table,
+            &mut self.sites,
+            &mut self.tris,
+            name,
+            e.op,
+            &scratch.change,
+        );
     }
 
     /// Applies the entries of a journal one after another, up to the first that `apply` wouldn't apply, and
@@ -240,17 +300,17 @@ impl Mesh {
     /// it; the mesh is then that after the entries before it. `Memory` says that there was no room for the
     /// change.
     pub fn apply_all(&mut self, entries: &[Entry]) -> Result<(), RunErr>
-        requires fresh { IsFresh self.old 0 }
+        requires fresh { IsFresh self.old.mesh 0 }
         requires tickets { HasTickets entries.now }
-        requires named { self.old.first_new + length entries.now ≤ 1048576 }
-        ensures replayed { OnOk result (self.new ≡ replayed self.old entries.now) }
-        ensures passed { OnOk result (ArePassed self.old entries.now) }
-        ensures stopped { IfErr result (λ stop. IsStopped self.old entries.now stop.ticket stop.fault) }
-        ensures before { IfErr result (λ stop. self.new ≡ replayed self.old (take stop.ticket entries.now)) }
+        requires named { self.old.mesh.first_new + length entries.now ≤ 1048576 }
+        ensures replayed { OnOk result (self.new.mesh ≡ replayed self.old.mesh entries.now) }
+        ensures passed { OnOk result (ArePassed self.old.mesh entries.now) }
+        ensures stopped { IfErr result (λ stop. IsStopped self.old.mesh entries.now stop.ticket stop.fault) }
+        ensures before { IfErr result (λ stop. self.new.mesh ≡ replayed self.old.mesh (take stop.ticket entries.now)) }
 
         // A run keeps the mesh conforming, and twice its area.
-        ensures conforming { IsConforming self.new }
-        ensures area { area2_of self.new ≡ area2_of self.old }
+        ensures conforming { IsConforming self.new.mesh }
+        ensures area { area2_of self.new.mesh ≡ area2_of self.old.mesh }
     {
         let first_new = self.first_new();
         if entries.is_empty() {
@@ -275,22 +335,40 @@ impl Mesh {
         ran
     }
 
+    // The first condition that an operation fails, or `None` where it passes. Then the change is what it makes
+    // of the triangles.
+    fn plan(&self, chunk: u16, n: u32, op: Op, scratch: &mut Scratch) -> Option<Cond>
+        ensures cond { result ≡ first_failing self.now.mesh chunk op }
+        ensures change { result ≡ None → IsChange self.now.mesh n op scratch.new.change.gone.items scratch.new.change.new.items }
+    {
+        self.table.plan(&self.bands, chunk, n, op, scratch)
+    }
+
     // Performs an operation that passes. A bisection's new node is named `n`. All room is made before
     // anything changes.
-    fn perform(&mut self, n: u32, op: Op) -> Result<(), NoMemory>
-        requires { CanApply self.old n op }
-        ensures ok { OnOk result ((can : CanApply self.old n op) → self.new ≡ op_applied self.old can.ticket op) }
-        ensures err { OnErr result (self.new ≡ self.old) }
+    fn perform(&mut self, n: u32, op: Op, change: &Change) -> Result<(), NoMemory>
+        requires can { CanApply self.old.mesh n op }
+        requires change { IsChange self.old.mesh n op change.now.gone.items change.now.new.items }
+        ensures ok { OnOk result ((can : CanApply self.old.mesh n op) → self.new.mesh ≡ op_applied self.old.mesh can.ticket op) }
+        ensures err { OnErr result (self.new.mesh ≡ self.old.mesh) }
     {
-        if self.tris.reserve(60).is_err() {
-            return Err(NoMemory);
-        }
-        if self.sites.reserve(1).is_err() {
-            return Err(NoMemory);
-        }
-        let change = self.table.apply(n, op)?;
-        exchange_listed(&mut self.tris, &change.gone, &change.new);
-        change_sites(&mut self.sites, n, self.table.place(n), op);
+        let triangles = change.new.len();
+        parts::reserve(
+            &mut self.table,
+            &mut self.sites,
+            &mut self.tris,
+            n as usize + 1,
+            triangles,
+            1,
+        )?;
+        parts::perform_within(
+            &mut self.table,
+            &mut self.sites,
+            &mut self.tris,
+            n,
+            op,
+            change,
+        );
         Ok(())
     }
 }

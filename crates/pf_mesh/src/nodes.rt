@@ -1,10 +1,10 @@
 //! The nodes of the edge table by name: more names, and where a new node stands.
-ghost use Rattle.std.specs.Prelude.{◌≡◌, ◌≢◌, ℕ, ◌<◌, ◌≤◌, ◌==◌, cond, length, vec_len, slice_index_or, OnOk};
+ghost use Rattle.std.specs.Prelude.{◌≡◌, ◌≢◌, ℕ, ◌<◌, ◌≤◌, ◌==◌, cond, length, vec_len, vec_capacity, slice_index_or};
 ghost use Rattle.pf_geom.specs.Plane.{IsInRange};
 ghost use Rattle.pf_mesh.specs.Table.{AreInRange, no_node, place_at, triangles_at};
 
 use crate::table::{EdgeTable, Node};
-use pf_geom::{NoMemory, Point};
+use pf_geom::Point;
 
 // What stands past the last name.
 const NO_NODE: Node = Node {
@@ -12,18 +12,17 @@ const NO_NODE: Node = Node {
     triangles: 0,
 };
 
-// Makes names up to this one, none of them live.
-fn make_names(nodes: &mut Vec<Node>, n: u32) -> Result<(), NoMemory>
+// Makes names up to this one, none of them live, where there is room for them.
+fn make_names(nodes: &mut Vec<Node>, n: u32)
+    requires { n < vec_capacity nodes.old }
     ensures same { (k : ℕ) → slice_index_or nodes.new.items k no_node ≡ slice_index_or nodes.old.items k no_node }
     ensures names { length nodes.old.items ≤ length nodes.new.items }
-    ensures ok { OnOk result (n < length nodes.new.items) }
+    ensures named { n < length nodes.new.items }
+    ensures room { vec_capacity nodes.old ≤ vec_capacity nodes.new }
 {
     while nodes.len() <= n as usize {
-        if nodes.push(NO_NODE).is_err() {
-            return Err(NoMemory);
-        }
+        nodes.push(NO_NODE).unwrap();
     }
-    Ok(())
 }
 
 // Says where a node stands.
@@ -32,6 +31,7 @@ fn stand(nodes: &mut Vec<Node>, n: u32, at: Point)
     ensures counts { (k : ℕ) → triangles_at nodes.new.items k ≡ triangles_at nodes.old.items k }
     ensures places { (k : ℕ) → place_at nodes.new.items k ≡ cond (n == k) at (place_at nodes.old.items k) }
     ensures names { length nodes.new.items ≡ length nodes.old.items }
+    ensures room { vec_capacity nodes.old ≤ vec_capacity nodes.new }
 {
     let node = nodes[n as usize];
     nodes[n as usize] = Node {
@@ -41,19 +41,21 @@ fn stand(nodes: &mut Vec<Node>, n: u32, at: Point)
 }
 
 impl EdgeTable {
-    /// Says where the node `n` stands, whose name may be a new one. It gets no triangles by that.
-    pub fn stand_at(&mut self, n: u32, at: Point) -> Result<(), NoMemory>
-        requires { IsInRange at }
+    /// Says where the node `n` stands, whose name may be a new one that there is room for. It gets no triangles
+    /// by that.
+    pub fn stand_at(&mut self, n: u32, at: Point)
+        requires in_range { IsInRange at }
+        requires room { n < vec_capacity self.old.nodes }
         ensures sides { self.new.sides ≡ self.old.sides }
         ensures counts { (k : ℕ) → triangles_at self.new.nodes.items k ≡ triangles_at self.old.nodes.items k }
         ensures others { (k : ℕ) → n ≢ k → place_at self.new.nodes.items k ≡ place_at self.old.nodes.items k }
         ensures names { length self.old.nodes.items ≤ length self.new.nodes.items }
-        ensures named { OnOk result (n < length self.new.nodes.items) }
+        ensures named { n < length self.new.nodes.items }
         ensures in_range { AreInRange self.old.nodes.items → AreInRange self.new.nodes.items }
-        ensures stands { OnOk result (place_at self.new.nodes.items n ≡ at) }
+        ensures stands { place_at self.new.nodes.items n ≡ at }
+        ensures room { vec_capacity self.old.nodes ≤ vec_capacity self.new.nodes }
     {
-        make_names(&mut self.nodes, n)?;
+        make_names(&mut self.nodes, n);
         stand(&mut self.nodes, n, at);
-        Ok(())
     }
 }

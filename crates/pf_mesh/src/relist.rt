@@ -7,8 +7,7 @@ ghost use Rattle.pf_mesh.specs.BuildSteps.{live_sites};
 ghost use Rattle.pf_mesh.specs.Relist.{starts_least, least_tris, ShowsAtMost, ShowsNamesBelow};
 
 use crate::building::sort_listed;
-use crate::table::{Edge, EdgeTable, Left, Node};
-use indexmap::IndexMap;
+use crate::table::{Edge, EdgeTable, Left, Node, SideMap};
 use pf_model::{Site, Tri};
 
 // Whether the directed edge starts at the least corner of the triangle on its left.
@@ -19,7 +18,7 @@ fn is_least_first(edge: Edge, left: Left) -> bool
 }
 
 // Lists the triangles in the order of the table, where there is room for them.
-fn gather_tris(sides: &IndexMap<Edge, Left>, tris: &mut Vec<Tri>)
+fn gather_tris(sides: &SideMap, tris: &mut Vec<Tri>)
     requires none { tris.old.items ≡ [] }
     requires room { length (least_tris sides.now.entries) ≤ vec_capacity tris.old }
     ensures { tris.new.items ≡ least_tris sides.now.entries }

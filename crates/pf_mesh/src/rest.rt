@@ -1,38 +1,29 @@
 //! The rest list: which edges are still too long or too short, what forbids their change, and which flips
 //! would pass.
-ghost use Rattle.std.specs.Prelude.{◌≡◌, ◌++◌, OnOk, IfOk, flat_map, int_lt, is_none, map};
+ghost use Rattle.std.specs.Prelude.{◌≡◌, ◌<◌, ◌++◌, ◌∷◌, [], All, OnOk, IfOk, Some, true, flat_map, int_lt, is_none, length, map, slice_get};
 ghost use Rattle.pf_geom.specs.Plane.{IsInRange, len2_of};
 ghost use Rattle.pf_model.specs.Mesh.{Undivided};
 ghost use Rattle.pf_model.specs.declared.Op.TheVariants.{Flip};
 ghost use Rattle.pf_model.specs.Conforming.{IsConforming};
 ghost use Rattle.pf_model.specs.Conditions.{first_failing};
-ghost use Rattle.pf_model.specs.Wishes.{acting_chunk, is_short, long_lines, short_lines, flip_lines, rest_of};
+ghost use Rattle.pf_model.specs.Lengths.{is_long};
+ghost use Rattle.pf_model.specs.Wishes.{acting_chunk, is_short, long_lines, short_lines, flip_lines, rest_of, terminal_of};
 ghost use Rattle.pf_mesh.specs.Lengths.{span_value};
-ghost use Rattle.pf_mesh.specs.Mesh.{IsKept};
-ghost use Rattle.pf_mesh.specs.Rest.{AreEnds, listed, lines_in};
+ghost use Rattle.pf_mesh.specs.declared.rest.edges.Sided.{Sided};
+ghost use Rattle.pf_mesh.specs.Rest.{AreAtEnds, IsEnd, IsListed, IsSided, listed, sided_edge};
 ghost use Rattle.pf_mesh.specs.Table.{AreInRange, Shows};
 
+mod edges;
 mod known;
-mod spans;
 mod walks;
 
 use crate::lengths::Span;
-use crate::table::{Edge, EdgeTable};
-use indexmap::IndexMap;
+use crate::rest::edges::{Edges, Sided};
+use crate::rest::known::End;
+use crate::table::EdgeTable;
 use pf_geom::{NoMemory, Point, len2};
 use pf_model::{Band, Op, RestLine, Tri};
 use std::alloc::Global;
-
-/// A part of the rest list.
-#[derive(Clone, Copy, Debug, PartialEq, Eq)]
-pub enum Part {
-    /// The edges that are too long.
-    TooLong,
-    /// The edges that are too short.
-    TooShort,
-    /// The edges whose flip passes.
-    CanFlip,
-}
 
 // Whether the squared distance of two points is below the least squared length.
 fn is_below(a: Point, b: Point, least: i64) -> bool
@@ -43,15 +34,40 @@ fn is_below(a: Point, b: Point, least: i64) -> bool
     len2(a, b) < least
 }
 
+// Appends a line.
+fn push_line(lines: &mut Vec<RestLine>, line: Option<RestLine>) -> Result<(), NoMemory>
+    ensures { OnOk result (lines.new.items ≡ lines.old.items ++ listed line) }
+{
+    if let Some(line) = line {
+        if lines.push(line).is_err() {
+            return Err(NoMemory);
+        }
+    }
+    Ok(())
+}
+
+// The line of a long edge whose walk ends there.
+fn long_line(e: Span, end: End) -> RestLine
+    ensures { (m : Undivided) → is_long m e.lo e.hi ≡ true → IsEnd m (terminal_of m (span_value e)) end → result ∷ [] ≡ long_lines m (span_value e) }
+{
+    RestLine::Long {
+        a: e.lo,
+        b: e.hi,
+        c: end.edge.lo,
+        d: end.edge.hi,
+        cond: end.cond,
+    }
+}
+
 impl EdgeTable {
     // The owner of the triangle on the left of the edge, from its lower name, or of the other one where there
     // is none on the left.
-    fn acting_chunk(&self, e: Span) -> u16
-        ensures { (m : Undivided) → Shows self.now.sides self.now.nodes.items m → result ≡ acting_chunk m (span_value e) }
+    fn acting_chunk(&self, e: Sided) -> u16
+        ensures { (m : Undivided) → Shows self.now.sides self.now.nodes.items m → IsSided self.now.sides e → result ≡ acting_chunk m (sided_edge e) }
     {
-        match self.side(e.lo, e.hi) {
+        match e.flanks.left {
             Some(left) => left.owner,
-            None => match self.side(e.hi, e.lo) {
+            None => match e.flanks.right {
                 Some(right) => right.owner,
                 None => 0,
             },
@@ -67,109 +83,127 @@ impl EdgeTable {
         is_below(self.place(e.lo), self.place(e.hi), least)
     }
 
-    // The line of a long edge.
-    fn long_line(&self, bands: &[Band], ends: &IndexMap<Edge, Span>, e: Span) -> Option<RestLine>
-        requires { AreInRange self.now.nodes.items }
-        ensures { (m : Undivided) → IsConforming m → Shows self.now.sides self.now.nodes.items m → m.bands ≡ bands.now → AreEnds m ends.now
-            → listed result ≡ long_lines m (span_value e) }
-    {
-        if !self.is_long(bands, e.lo, e.hi) {
-            return None;
-        }
-        let end = self.end_of(ends, e);
-        let op = Op::Bisect {
-            a: end.lo,
-            b: end.hi,
-        };
-        Some(RestLine::Long {
-            a: e.lo,
-            b: e.hi,
-            c: end.lo,
-            d: end.hi,
-            cond: self.condition(bands, self.acting_chunk(end), op),
-        })
-    }
-
     // The line of a short edge.
-    fn short_line(&self, bands: &[Band], e: Span) -> Option<RestLine>
+    fn short_line(&self, bands: &[Band], e: Sided) -> Option<RestLine>
         requires { AreInRange self.now.nodes.items }
-        ensures { (m : Undivided) → IsConforming m → Shows self.now.sides self.now.nodes.items m → m.bands ≡ bands.now
-            → listed result ≡ short_lines m (span_value e) }
+        ensures { (m : Undivided) → IsConforming m → Shows self.now.sides self.now.nodes.items m → m.bands ≡ bands.now → IsSided self.now.sides e
+            → listed result ≡ short_lines m (sided_edge e) }
     {
-        if !self.is_short(bands, e) {
+        let (lo, hi) = (e.span.lo, e.span.hi);
+        if !self.is_short(bands, e.span) {
             return None;
         }
         let chunk = self.acting_chunk(e);
-        let onto_b = Op::Contract { u: e.lo, v: e.hi };
-        let onto_a = Op::Contract { u: e.hi, v: e.lo };
         Some(RestLine::Short {
-            a: e.lo,
-            b: e.hi,
-            onto_b: self.condition(bands, chunk, onto_b),
-            onto_a: self.condition(bands, chunk, onto_a),
+            a: lo,
+            b: hi,
+            onto_b: self.condition(bands, chunk, Op::Contract { u: lo, v: hi }),
+            onto_a: self.condition(bands, chunk, Op::Contract { u: hi, v: lo }),
         })
     }
 
     // Whether an edge's flip passes. Its acting chunk owns a triangle at it, so the conditions of a flip alone
     // decide.
-    fn can_flip(&self, e: Span) -> bool
+    fn can_flip(&self, e: Sided) -> bool
         requires { AreInRange self.now.nodes.items }
-        ensures { (m : Undivided) → IsConforming m → Shows self.now.sides self.now.nodes.items m
-            → result ≡ is_none (first_failing m (acting_chunk m (span_value e)) (Flip e.lo e.hi)) }
+        ensures { (m : Undivided) → IsConforming m → Shows self.now.sides self.now.nodes.items m → IsListed self.now.sides e
+            → result ≡ is_none (first_failing m (acting_chunk m (sided_edge e)) (Flip e.span.lo e.span.hi)) }
     {
-        let (lo, hi) = (e.lo.min(e.hi), e.lo.max(e.hi));
-        self.turning_condition(lo, hi).is_none()
+        self.turning_between(e.span.lo, e.span.hi, e.flanks)
+            .is_none()
     }
 
     // The line of an edge whose flip passes.
-    fn flip_line(&self, e: Span) -> Option<RestLine>
+    fn flip_line(&self, e: Sided) -> Option<RestLine>
         requires { AreInRange self.now.nodes.items }
-        ensures { (m : Undivided) → IsConforming m → Shows self.now.sides self.now.nodes.items m → listed result ≡ flip_lines m (span_value e) }
+        ensures { (m : Undivided) → IsConforming m → Shows self.now.sides self.now.nodes.items m → IsListed self.now.sides e
+            → listed result ≡ flip_lines m (sided_edge e) }
     {
         if !self.can_flip(e) {
             return None;
         }
-        Some(RestLine::Flip { a: e.lo, b: e.hi })
+        Some(RestLine::Flip {
+            a: e.span.lo,
+            b: e.span.hi,
+        })
     }
 
-    // The line that an edge has in a part of the list.
-    fn line(
-        &self,
-        bands: &[Band],
-        ends: &IndexMap<Edge, Span>,
-        part: Part,
-        e: Span,
-    ) -> Option<RestLine>
-        requires { AreInRange self.now.nodes.items }
-        ensures { (m : Undivided) → IsConforming m → Shows self.now.sides self.now.nodes.items m → m.bands ≡ bands.now → AreEnds m ends.now
-            → listed result ≡ lines_in m part (span_value e) }
-    {
-        match part {
-            Part::TooLong => self.long_line(bands, ends, e),
-            Part::TooShort => self.short_line(bands, e),
-            Part::CanFlip => self.flip_line(e),
-        }
-    }
-
-    // Appends a part of the list.
-    fn push_part(
+    // Appends the line of the edge at a place, where it is long.
+    fn push_long_at(
         &self,
         lines: &mut Vec<RestLine>,
         bands: &[Band],
-        ends: &IndexMap<Edge, Span>,
-        part: Part,
-        edges: &[Span],
+        edges: &Edges,
+        ends: &mut Vec<Option<End>>,
+        way: &mut Vec<usize>,
+        place: usize,
     ) -> Result<(), NoMemory>
-        requires { AreInRange self.now.nodes.items }
-        ensures { OnOk result ((m : Undivided) → IsConforming m → Shows self.now.sides self.now.nodes.items m → m.bands ≡ bands.now → AreEnds m ends.now
-            → lines.new.items ≡ lines.old.items ++ flat_map (lines_in m part) (map span_value edges.now)) }
+        requires in_range { AreInRange self.now.nodes.items }
+        requires listed { All (IsListed self.now.sides) edges.now.list.items }
+        requires place { place < length edges.now.list.items }
+        ensures line { OnOk result ((m : Undivided) (e : Sided) → IsConforming m → Shows self.now.sides self.now.nodes.items m → m.bands ≡ bands.now
+            → AreAtEnds m edges.now.list.items ends.old.items → slice_get edges.now.list.items place ≡ Some e
+            → lines.new.items ≡ lines.old.items ++ long_lines m (sided_edge e)) }
+        ensures noted { OnOk result ((m : Undivided) → IsConforming m → Shows self.now.sides self.now.nodes.items m → m.bands ≡ bands.now
+            → AreAtEnds m edges.now.list.items ends.old.items → AreAtEnds m edges.now.list.items ends.new.items) }
+    {
+        let e = edges.list[place].span;
+        if !self.is_long(bands, e.lo, e.hi) {
+            return Ok(());
+        }
+        let end = self.follow(bands, edges, ends, way, place)?;
+        push_line(lines, Some(long_line(e, end)))?;
+        Ok(())
+    }
+
+    // Appends the lines of the long edges.
+    fn push_long(
+        &self,
+        alloc: Global,
+        lines: &mut Vec<RestLine>,
+        bands: &[Band],
+        edges: &Edges,
+    ) -> Result<(), NoMemory>
+        requires in_range { AreInRange self.now.nodes.items }
+        requires listed { All (IsListed self.now.sides) edges.now.list.items }
+        ensures { OnOk result ((m : Undivided) → IsConforming m → Shows self.now.sides self.now.nodes.items m → m.bands ≡ bands.now
+            → lines.new.items ≡ lines.old.items ++ flat_map (long_lines m) (map sided_edge edges.now.list.items)) }
+    {
+        let mut ends = Vec::new(alloc);
+        let mut way = Vec::new(alloc);
+        for place in 0..edges.list.len() {
+            self.push_long_at(lines, bands, edges, &mut ends, &mut way, place)?;
+        }
+        Ok(())
+    }
+
+    // Appends the lines of the short edges.
+    fn push_short(
+        &self,
+        lines: &mut Vec<RestLine>,
+        bands: &[Band],
+        edges: &[Sided],
+    ) -> Result<(), NoMemory>
+        requires in_range { AreInRange self.now.nodes.items }
+        requires listed { All (IsListed self.now.sides) edges.now }
+        ensures { OnOk result ((m : Undivided) → IsConforming m → Shows self.now.sides self.now.nodes.items m → m.bands ≡ bands.now
+            → lines.new.items ≡ lines.old.items ++ flat_map (short_lines m) (map sided_edge edges.now)) }
     {
         for e in edges {
-            if let Some(line) = self.line(bands, ends, part, *e) {
-                if lines.push(line).is_err() {
-                    return Err(NoMemory);
-                }
-            }
+            push_line(lines, self.short_line(bands, *e))?;
+        }
+        Ok(())
+    }
+
+    // Appends the lines of the edges whose flip passes.
+    fn push_flips(&self, lines: &mut Vec<RestLine>, edges: &[Sided]) -> Result<(), NoMemory>
+        requires in_range { AreInRange self.now.nodes.items }
+        requires listed { All (IsListed self.now.sides) edges.now }
+        ensures { OnOk result ((m : Undivided) → IsConforming m → Shows self.now.sides self.now.nodes.items m
+            → lines.new.items ≡ lines.old.items ++ flat_map (flip_lines m) (map sided_edge edges.now)) }
+    {
+        for e in edges {
+            push_line(lines, self.flip_line(*e))?;
         }
         Ok(())
     }
@@ -185,12 +219,11 @@ impl EdgeTable {
         ensures { IfOk result (λ lines. (m : Undivided) → IsConforming m → Shows self.now.sides self.now.nodes.items m
             → m.tris ≡ tris.now → m.bands ≡ bands.now → lines.items ≡ rest_of m) }
     {
-        let edges = self.spans(alloc, tris)?;
-        let ends = self.known_ends(alloc, bands, &edges)?;
+        let edges = self.edges(alloc, tris)?;
         let mut lines = Vec::new(alloc);
-        self.push_part(&mut lines, bands, &ends, Part::TooLong, &edges)?;
-        self.push_part(&mut lines, bands, &ends, Part::TooShort, &edges)?;
-        self.push_part(&mut lines, bands, &ends, Part::CanFlip, &edges)?;
+        self.push_long(alloc, &mut lines, bands, &edges)?;
+        self.push_short(&mut lines, bands, &edges.list)?;
+        self.push_flips(&mut lines, &edges.list)?;
         Ok(lines)
     }
 }

@@ -1,5 +1,5 @@
 //! A run of entries on the edge table alone. The lists of the mesh are made anew after it.
-ghost use Rattle.std.specs.Prelude.{◌≡◌, ℕ, ◌+◌, ◌<◌, ◌≤◌, List, [], take, length, vec_capacity, OnOk, IfErr};
+ghost use Rattle.std.specs.Prelude.{◌≡◌, ℕ, ◌+◌, ◌<◌, ◌≤◌, List, [], take, length, vec_capacity, None, OnOk, IfErr};
 ghost use Rattle.pf_model.specs.declared.Tri.{Tri};
 ghost use Rattle.pf_model.specs.Mesh.{Undivided};
 ghost use Rattle.pf_model.specs.Conforming.{IsConforming};
@@ -7,9 +7,12 @@ ghost use Rattle.pf_model.specs.Ends.{gone_end};
 ghost use Rattle.pf_model.specs.Applied.{applied};
 ghost use Rattle.pf_model.specs.Replay.{replayed};
 ghost use Rattle.pf_mesh.specs.Table.{AreInRange, ShowsTriangles, Shows};
+ghost use Rattle.pf_mesh.specs.Mesh.{IsKept};
+ghost use Rattle.pf_mesh.specs.Operations.{IsChange};
 ghost use Rattle.pf_mesh.specs.Run.{HasTickets, fault_of, ArePassed, IsSaid, IsStopped, IsReached, HasReached};
 
 use crate::mesh::{ApplyErr, ends};
+use crate::scratch::Scratch;
 use crate::table::EdgeTable;
 use pf_geom::NoMemory;
 use pf_model::{Band, Entry, Op, Site, Tri};
@@ -37,15 +40,24 @@ fn gone_node(table: &EdgeTable, op: Op) -> Option<u32>
     None
 }
 
-// Why an entry isn't applied, or `None` where it passes.
-fn entry_fault(table: &EdgeTable, bands: &[Band], entry: &Entry) -> Option<ApplyErr>
+// Why an entry isn't applied, or `None` where it passes. Then the change is what it makes of the triangles,
+// where a bisection's new node is named `n`.
+fn entry_fault(
+    table: &EdgeTable,
+    bands: &[Band],
+    n: u32,
+    entry: &Entry,
+    scratch: &mut Scratch,
+) -> Option<ApplyErr>
     requires { AreInRange table.now.nodes.items }
-    ensures { (m : Undivided) → IsConforming m → Shows table.now.sides table.now.nodes.items m → m.bands ≡ bands.now → result ≡ fault_of m entry.now }
+    ensures fault { (m : Undivided) → IsKept table.now.sides table.now.nodes.items m → m.bands ≡ bands.now → result ≡ fault_of m entry.now }
+    ensures change { (m : Undivided) → IsKept table.now.sides table.now.nodes.items m → result ≡ None
+        → IsChange m n entry.now.op scratch.new.change.gone.items scratch.new.change.new.items }
 {
     if let Some(node) = gone_node(table, entry.op) {
         return Some(ApplyErr::Gone { node });
     }
-    match table.condition(bands, entry.chunk, entry.op) {
+    match table.plan(bands, entry.chunk, n, entry.op, scratch) {
         Some(cond) => Some(ApplyErr::Refused { cond }),
         None => None,
     }
@@ -86,6 +98,7 @@ fn step(
     bands: &[Band],
     first_new: u32,
     entry: &Entry,
+    scratch: &mut Scratch,
 ) -> Result<(), ApplyErr>
     requires reached { HasReached table.old.sides table.old.nodes.items bands.now first_new entry.now.ticket (vec_capacity sites.old) (vec_capacity tris.old) }
     requires named { first_new + entry.now.ticket < 1048576 }
@@ -102,16 +115,16 @@ fn step(
         → IsSaid m entry.now fault
         × IsReached table.new.sides table.new.nodes.items bands.now first_new entry.now.ticket (vec_capacity sites.new) (vec_capacity tris.new) m) }
 {
-    if let Some(fault) = entry_fault(table, bands, entry) {
+    let name = first_new + entry.ticket;
+    if let Some(fault) = entry_fault(table, bands, name, entry, scratch) {
         return Err(fault);
     }
-    let name = first_new + entry.ticket;
     match make_room(table, name, sites, tris) {
         Ok(()) => {}
         Err(NoMemory) => return Err(ApplyErr::Memory),
     }
-    match table.apply(name, entry.op) {
-        Ok(_change) => Ok(()),
+    match table.perform(name, entry.op, &scratch.change) {
+        Ok(()) => Ok(()),
         Err(NoMemory) => Err(ApplyErr::Memory),
     }
 }
@@ -140,8 +153,9 @@ pub fn run(
         → IsStopped m entries.now stop.ticket stop.fault
         × IsReached table.new.sides table.new.nodes.items bands.now first_new stop.ticket (vec_capacity sites.new) (vec_capacity tris.new) (replayed m (take stop.ticket entries.now))) }
 {
+    let mut scratch = Scratch::new();
     for entry in entries {
-        match step(table, sites, tris, bands, first_new, entry) {
+        match step(table, sites, tris, bands, first_new, entry, &mut scratch) {
             Ok(()) => {}
             Err(fault) => {
                 return Err(RunErr {

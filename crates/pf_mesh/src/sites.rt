@@ -1,5 +1,5 @@
 //! The list of live nodes by rising name, kept up to date by each operation.
-ghost use Rattle.std.specs.Prelude.{◌≡◌, ℕ, ◌<◌, ◌≤◌, ◌==◌, ◌++◌, [], ◌∷◌, AllPairs, not, filter, length, vec_len, vec_capacity};
+ghost use Rattle.std.specs.Prelude.{◌≡◌, ℕ, ◌+◌, ◌<◌, ◌≤◌, ◌==◌, ◌++◌, [], ◌∷◌, AllPairs, not, filter, length, vec_len, vec_capacity};
 ghost use Rattle.pf_model.specs.declared.Site.{Site};
 ghost use Rattle.pf_mesh.specs.Sites.{IsPlace, sites_after};
 
@@ -27,7 +27,9 @@ fn place(sites: &[Site], n: u32) -> usize
 // Takes a node out of the list.
 fn strike_site(sites: &mut Vec<Site>, n: u32)
     requires { AllPairs (λ r s. r.name < s.name) sites.old.items }
-    ensures { sites.new.items ≡ filter (λ s. not (s.name == n)) sites.old.items }
+    ensures struck { sites.new.items ≡ filter (λ s. not (s.name == n)) sites.old.items }
+    ensures len { vec_len sites.new ≤ vec_len sites.old }
+    ensures capacity { vec_capacity sites.old ≤ vec_capacity sites.new }
 {
     let at = place(sites, n);
     if at >= sites.len() {
@@ -44,7 +46,9 @@ fn strike_site(sites: &mut Vec<Site>, n: u32)
 pub fn change_sites(sites: &mut Vec<Site>, n: u32, at: Point, op: Op)
     requires rising { AllPairs (λ r s. r.name < s.name) sites.old.items }
     requires room { vec_len sites.old < vec_capacity sites.old }
-    ensures { sites.new.items ≡ sites_after sites.old.items n at op }
+    ensures changed { sites.new.items ≡ sites_after sites.old.items n at op }
+    ensures len { vec_len sites.new ≤ vec_len sites.old + 1 }
+    ensures capacity { vec_capacity sites.old ≤ vec_capacity sites.new }
 {
     match op {
         Op::Flip { a: _, b: _ } => {}

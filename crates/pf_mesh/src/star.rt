@@ -1,15 +1,16 @@
 //! The star of a node: its triangles, found by turning round the node from one of its edges.
-ghost use Rattle.std.specs.Prelude.{◌≡◌, ◌+◌, ◌<◌, ◌≤◌, ◌==◌, ◌||◌, insert, length, Option, Some, None, true};
+ghost use Rattle.std.specs.Prelude.{◌≡◌, ℕ, ◌+◌, ◌<◌, ◌≤◌, ◌==◌, ◌||◌, insert, length, Option, Some, None, true, []};
 ghost use Rattle.std.specs.List.{list_any};
+ghost use Rattle.std.specs.Option.{option_map};
 ghost use Rattle.arrayvec.specs.ArrayVec.{array_vec_len};
 ghost use Rattle.pf_model.specs.Rising.{insert_by};
 ghost use Rattle.pf_model.specs.Mesh.{Undivided, is_edge};
 ghost use Rattle.pf_model.specs.Conforming.{IsConforming};
 ghost use Rattle.pf_model.specs.Stars.{spoke_lt, spokes_of, left_after, without_right, run_leaves, run_start, is_one_fan, path_start, path_end};
-ghost use Rattle.pf_mesh.specs.Table.{Shows, place_or_origin, triangles_at};
+ghost use Rattle.pf_mesh.specs.Table.{Shows, side_at, side_value, place_or_origin, triangles_at};
 ghost use Rattle.pf_mesh.specs.Star.{has_right, IsSpokeOn, IsSpokeBefore, TurnsRight, IsTurned, IsFan};
 
-use crate::table::EdgeTable;
+use crate::table::{EdgeTable, Left};
 use arrayvec::ArrayVec;
 use pf_geom::Point;
 use pf_model::Spoke;
@@ -17,8 +18,8 @@ use pf_model::Spoke;
 /// Triangles at a node, by rising right. A node with more than 60 isn't contracted.
 pub type Spokes = ArrayVec<Spoke, 60>;
 
-// Whether a spoke has this right.
-fn is_right(spokes: &[Spoke], n: u32) -> bool
+/// Whether a spoke has this right.
+pub fn is_right(spokes: &[Spoke], n: u32) -> bool
     ensures { result ≡ has_right n spokes.now }
 {
     spokes.iter().any(|s| s.right == n)
@@ -103,40 +104,39 @@ fn strike_right(spokes: &mut Spokes, right: u32)
     spokes.retain(|s| s.right != right);
 }
 
-// Whether a run that begins at this right passes all of these triangles.
-fn runs_through(spokes: Spokes, right: u32) -> bool
-    ensures { result ≡ (length (run_leaves (array_vec_len spokes) spokes.items right) == 0) }
+// Whether a run that begins at this right passes all of these triangles. It takes out those that it passes.
+fn runs_through(left: &mut Spokes, right: u32) -> bool
+    ensures { result ≡ (length (run_leaves (array_vec_len left.old) left.old.items right) == 0) }
 {
-    let mut most = spokes.len();
-    let mut left = spokes;
+    let mut most = left.len();
     let mut at = right;
     'run: while most > 0 {
         let Some(next) = next_right(left.as_slice(), at) else {
             return left.is_empty();
         };
-        strike_right(&mut left, at);
+        strike_right(left, at);
         at = next;
         most -= 1;
     }
     left.is_empty()
 }
 
-// These spokes, in a list of their own.
-fn copied(spokes: &[Spoke]) -> Spokes
+// Puts these spokes in place of those of the list.
+fn copy_spokes(copy: &mut Spokes, spokes: &[Spoke])
     requires { length spokes.now ≤ 60 }
-    ensures { result.items ≡ spokes.now }
+    ensures { copy.new.items ≡ spokes.now }
 {
-    let mut copy = Spokes::new();
+    copy.clear();
     let _ = copy.try_extend_from_slice(spokes);
-    copy
 }
 
-// Whether these triangles are one cycle or one path.
-fn is_fan(spokes: &[Spoke]) -> bool
+// Whether these triangles are one cycle or one path. What `left` holds doesn't matter.
+fn is_fan(spokes: &[Spoke], left: &mut Spokes) -> bool
     requires { length spokes.now ≤ 60 }
     ensures { result ≡ is_one_fan spokes.now }
 {
-    runs_through(copied(spokes), start_of_run(spokes))
+    copy_spokes(left, spokes);
+    runs_through(left, start_of_run(spokes))
 }
 
 // Puts a spoke among these, by right.
@@ -168,11 +168,12 @@ impl EdgeTable {
         self.site(n).unwrap_or(Point { x: 0, y: 0 })
     }
 
-    // The triangle at `u` with this right corner.
-    fn spoke_on(&self, u: u32, right: u32) -> Option<Spoke>
-        ensures { (m : Undivided) → IsConforming m → Shows self.now.sides self.now.nodes.items m → IsSpokeOn (spokes_of m u) right result }
+    // The triangle with this right corner that stands at the side, as a spoke of its third corner.
+    fn spoke_with(&self, right: u32, side: Option<Left>) -> Option<Spoke>
+        ensures { (m : Undivided) (u : ℕ) → IsConforming m → Shows self.now.sides self.now.nodes.items m
+            → option_map side_value side ≡ side_at self.now.sides u right → IsSpokeOn (spokes_of m u) right result }
     {
-        match self.side(u, right) {
+        match side {
             Some(side) => Some(Spoke {
                 right,
                 right_at: self.spot(right),
@@ -182,6 +183,13 @@ impl EdgeTable {
             }),
             None => None,
         }
+    }
+
+    // The triangle at `u` with this right corner.
+    fn spoke_on(&self, u: u32, right: u32) -> Option<Spoke>
+        ensures { (m : Undivided) → IsConforming m → Shows self.now.sides self.now.nodes.items m → IsSpokeOn (spokes_of m u) right result }
+    {
+        self.spoke_with(right, self.side(u, right))
     }
 
     // The triangle at `u` with this left corner.
@@ -200,57 +208,71 @@ impl EdgeTable {
         }
     }
 
-    // The triangles at `u` that come by turning left from the edge to `v`, up to the boundary or round to `v`.
-    fn turn_left(&self, u: u32, v: u32, most: usize) -> Spokes
-        requires { most ≤ 60 }
-        ensures { (m : Undivided) → IsConforming m → Shows self.now.sides self.now.nodes.items m → length (spokes_of m u) ≡ most → TurnsRight (spokes_of m u) result.items v v }
+    // Finds the triangles at `u` that come by turning left from the edge to `v`, up to the boundary or round
+    // to `v`. The side of that edge is at hand.
+    fn turn_left(&self, u: u32, v: u32, side: Option<Left>, most: usize, found: &mut Spokes)
+        requires side { option_map side_value side ≡ side_at self.now.sides u v }
+        requires most { most ≤ 60 }
+        requires none { found.old.items ≡ [] }
+        ensures { (m : Undivided) → IsConforming m → Shows self.now.sides self.now.nodes.items m → length (spokes_of m u) ≡ most
+            → TurnsRight (spokes_of m u) found.new.items v v }
     {
-        let mut found = Spokes::new();
-        let mut right = v;
+        let Some(first) = self.spoke_with(v, side) else {
+            return;
+        };
+        put_spoke(found, first);
+        let mut right = first.left;
         'turns: while found.len() < most {
             let Some(spoke) = self.spoke_on(u, right) else {
-                return found;
+                return;
             };
             if is_right(found.as_slice(), spoke.right) {
-                return found;
+                return;
             }
-            put_spoke(&mut found, spoke);
+            put_spoke(found, spoke);
             right = spoke.left;
         }
-        found
     }
 
-    // Those triangles, and the ones that come by turning right from the edge to `v`.
-    fn turn_right(&self, u: u32, v: u32, most: usize, from: Spokes) -> Spokes
+    // Adds the triangles at `u` that come by turning right from the edge to `v`.
+    fn turn_right(&self, u: u32, v: u32, most: usize, found: &mut Spokes)
         requires { most ≤ 60 }
-        ensures { (m : Undivided) → IsConforming m → Shows self.now.sides self.now.nodes.items m → length (spokes_of m u) ≡ most → TurnsRight (spokes_of m u) from.items v v → IsTurned (spokes_of m u) result.items v }
+        ensures { (m : Undivided) → IsConforming m → Shows self.now.sides self.now.nodes.items m → length (spokes_of m u) ≡ most
+            → TurnsRight (spokes_of m u) found.old.items v v → IsTurned (spokes_of m u) found.new.items v }
     {
-        let mut found = from;
         let mut left = v;
         'turns: while found.len() < most {
             let Some(spoke) = self.spoke_before(u, left) else {
-                return found;
+                return;
             };
             if is_right(found.as_slice(), spoke.right) {
-                return found;
+                return;
             }
-            put_spoke(&mut found, spoke);
+            put_spoke(found, spoke);
             left = spoke.right;
         }
-        found
     }
 
-    /// The triangles at `u`, where they are one cycle or one path: found by turning round `u` from its
-    /// edge to `v`, either way.
-    pub fn fan(&self, u: u32, v: u32) -> Option<Spokes>
-        requires { triangles_at self.now.nodes.items u ≤ 60 }
-        ensures { (m : Undivided) → IsConforming m → Shows self.now.sides self.now.nodes.items m → is_edge m.tris u v ≡ true → IsFan (spokes_of m u) result }
+    /// Whether the triangles at `u` are one cycle or one path. Then `star` has them all, found by turning
+    /// round `u` from its edge to `v`, either way. The side of that edge is at hand. What the lists held
+    /// doesn't matter.
+    pub fn find_fan(
+        &self,
+        u: u32,
+        v: u32,
+        side: Option<Left>,
+        star: &mut Spokes,
+        left: &mut Spokes,
+    ) -> bool
+        requires side { option_map side_value side ≡ side_at self.now.sides u v }
+        requires narrow { triangles_at self.now.nodes.items u ≤ 60 }
+        ensures { (m : Undivided) → IsConforming m → Shows self.now.sides self.now.nodes.items m → is_edge m.tris u v ≡ true
+            → IsFan (spokes_of m u) result star.new.items }
     {
         let most = self.triangles(u) as usize;
-        let found = self.turn_right(u, v, most, self.turn_left(u, v, most));
-        if found.len() != most || !is_fan(found.as_slice()) {
-            return None;
-        }
-        Some(found)
+        star.clear();
+        self.turn_left(u, v, side, most, star);
+        self.turn_right(u, v, most, star);
+        star.len() == most && is_fan(star.as_slice(), left)
     }
 }

@@ -1,27 +1,57 @@
 //! The edge table: which triangle stands left of each directed edge, and the nodes by their names.
-ghost use Rattle.std.specs.Prelude.{◌≡◌, ℕ, ◌+◌, ◌-◌, ◌*◌, ◌^◌, ◌<◌, ◌≤◌, ◌≢◌, ◌&&◌, ◌==◌, cond, List, Contains, All, Option, Some, None, IsSome, length, map, slice_index_or, slice_set, vec_len, is_some, ◌||◌, OnOk, IfOk};
+ghost use Rattle.std.specs.Prelude.{◌≡◌, ℕ, ◌+◌, ◌-◌, ◌*◌, ◌^◌, ◌<◌, ◌≤◌, ◌≢◌, ◌&&◌, ◌==◌, cond, List, Contains, All, Option, Some, None, IsSome, length, map, slice_index_or, slice_set, vec_len, vec_capacity, is_some, ◌||◌, OnOk, IfOk};
+ghost use Rattle.std.specs.Hash as fed;
+ghost use Rattle.std.specs.Cmp.Rules.{hashing};
+ghost use Rattle.std.proofs.Common.{rules};
+ghost use Rattle.std.specs.List.{list_any};
 ghost use Rattle.std.specs.Option.{option_map};
 ghost use Rattle.pf_geom.specs.Plane.{IsInRange};
 ghost use Rattle.indexmap.specs.IndexMap.{get, spare, index_map_len, IsUnchanged};
 ghost use Rattle.pf_model.specs.declared.Tri.{Tri};
-ghost use Rattle.pf_model.specs.Rising.{insert_by, insert_all_by};
-ghost use Rattle.pf_model.specs.Mesh.{tri_lt, tri_of};
+ghost use Rattle.pf_model.specs.Rising.{insert_by};
+ghost use Rattle.pf_model.specs.Mesh.{tri_lt, tri_of, has_edge, has_corner};
 ghost use Rattle.pf_model.specs.Build.{point_at};
 ghost use Rattle.pf_mesh.specs.BuildSteps.{IsEmptyTable};
-ghost use Rattle.pf_mesh.specs.Exchange.{IsTurned, SharesNoEdge, AreSound, AreFit, CanTake, CanExchange, without, without_all, exchanged, two_of, turned_of};
-ghost use Rattle.pf_mesh.specs.Table.{side_at, side_value, site_at, place_at, triangles_at, place_or_origin, AreInRange, IsWithin, HasSamePlaces, ShowsTriangles};
+ghost use Rattle.pf_mesh.specs.Hasher.{place_of_edge};
+ghost use Rattle.pf_mesh.specs.Exchange.{IsTurned, SharesNoEdge, CanExchange, exchanged};
+ghost use Rattle.pf_mesh.specs.Table.{side_at, side_value, number_at, site_at, place_at, triangles_at, place_or_origin, AreInRange, IsWithin, HasSamePlaces, ShowsTriangles};
+ghost use Rattle.pf_mesh.specs.TableSteps.{side_with, side_with_all, side_without};
 
+use crate::hasher::EdgeHasher;
 use indexmap::IndexMap;
 use pf_geom::{NoMemory, Point};
 use pf_model::Tri;
 use std::alloc::Global;
+use std::hash::{BuildHasherDefault, Hash, Hasher};
 
 /// A directed edge, by the names of its ends.
-#[derive(Clone, Copy, Debug, PartialEq, Eq, Hash)]
+#[derive(Clone, Copy, Debug, PartialEq, Eq)]
 pub struct Edge {
     pub from: u32,
     pub to: u32,
 }
+
+// Where an edge belongs in the table's memory: both directions of an edge side by side, and edges whose lower
+// names are neighbours in neighbouring groups, as long as the higher ones have the same eighth. The higher
+// bits, which the table looks at before it compares names, tell the rest of the higher name and the direction.
+impl Hash for Edge {
+    ghost hash_input = { λ e. fed.u64 (place_of_edge e.from e.to) };
+
+    ghost respects_eq = { Prim.search (hashing, rules) };
+
+    #[inline(always)]
+    fn hash<H: Hasher>(&self, state: &mut H) {
+        let low = self.from.min(self.to) as u64;
+        let high = self.from.max(self.to) as u64;
+        let rising = if self.from < self.to { 1 } else { 0 };
+        state.write_u64(
+            low + high / 8 * 2_654_435_761 + high % 8 * 33_554_432 + rising * 268_435_456,
+        );
+    }
+}
+
+/// The directed edges, each with what stands on its left.
+pub type SideMap = IndexMap<Edge, Left, BuildHasherDefault<EdgeHasher>>;
 
 /// The triangle on the left of a directed edge: its third corner and its owner.
 #[derive(Clone, Copy, Debug, PartialEq, Eq)]
@@ -40,43 +70,80 @@ pub struct Node {
 /// The triangles by their directed edges, and the nodes by their names.
 #[derive(Drop)]
 pub struct EdgeTable {
-    pub sides: IndexMap<Edge, Left>,
+    pub sides: SideMap,
     pub nodes: Vec<Node>,
 }
 
-// Enters the triangle p, q, z.
-fn enter(sides: &mut IndexMap<Edge, Left>, p: u32, q: u32, z: u32, owner: u16)
+// Whether one of the triangles has the directed edge from `p` to `q`.
+fn is_side_of(tris: &[Tri], p: u32, q: u32) -> bool
+    ensures { result ≡ list_any (has_edge p q) tris.now }
+{
+    tris.iter().any(|t| {
+        (t.a == p && t.b == q) || (t.b == p && t.c == q) || (t.c == p && t.a == q)
+    })
+}
+
+// Enters a triangle.
+fn enter(sides: &mut SideMap, t: Tri)
     requires { 3 ≤ spare sides.old }
-    ensures sides { (a b : ℕ) → side_at sides.new a b
-        ≡ cond (z == a && p == b) (Some record { apex = q; owner = owner })
-        (cond (q == a && z == b) (Some record { apex = p; owner = owner })
-        (cond (p == a && q == b) (Some record { apex = z; owner = owner }) (side_at sides.old a b))) }
-    ensures len { p ≢ q → q ≢ z → z ≢ p → side_at sides.old p q ≡ None → side_at sides.old q z ≡ None → side_at sides.old z p ≡ None
+    ensures sides { (p q : ℕ) → side_at sides.new p q ≡ side_with t p q (side_at sides.old p q) }
+    ensures len { t.a ≢ t.b → t.b ≢ t.c → t.c ≢ t.a
+        → side_at sides.old t.a t.b ≡ None → side_at sides.old t.b t.c ≡ None → side_at sides.old t.c t.a ≡ None
         → index_map_len sides.new ≡ index_map_len sides.old + 3 }
     ensures spare { spare sides.old ≤ spare sides.new + 3 }
 {
+    let Tri { a, b, c, owner } = t;
     sides
-        .insert(Edge { from: p, to: q }, Left { apex: z, owner })
+        .insert(Edge { from: c, to: a }, Left { apex: b, owner })
         .unwrap();
     sides
-        .insert(Edge { from: q, to: z }, Left { apex: p, owner })
+        .insert(Edge { from: b, to: c }, Left { apex: a, owner })
         .unwrap();
     sides
-        .insert(Edge { from: z, to: p }, Left { apex: q, owner })
+        .insert(Edge { from: a, to: b }, Left { apex: c, owner })
         .unwrap();
 }
 
-// Strikes the triangle p, q, z out.
-fn strike(sides: &mut IndexMap<Edge, Left>, p: u32, q: u32, z: u32)
-    ensures sides { (a b : ℕ) → side_at sides.new a b
-        ≡ cond (z == a && p == b) None (cond (q == a && z == b) None (cond (p == a && q == b) None (side_at sides.old a b))) }
-    ensures len { p ≢ q → q ≢ z → z ≢ p → IsSome (side_at sides.old p q) → IsSome (side_at sides.old q z) → IsSome (side_at sides.old z p)
-        → index_map_len sides.new + 3 ≡ index_map_len sides.old }
+// Enters each of the triangles. Where a directed edge is there already, its side is written anew.
+fn enter_all(sides: &mut SideMap, new: &[Tri])
+    requires { 3 * length new.now ≤ spare sides.old }
+    ensures sides { (p q : ℕ) → side_at sides.new p q ≡ side_with_all new.now p q (side_at sides.old p q) }
+    ensures spare { spare sides.old ≤ spare sides.new + 3 * length new.now }
+{
+    for t in new {
+        enter(sides, *t);
+    }
+}
+
+// Strikes a directed edge that none of the triangles has.
+fn strike(sides: &mut SideMap, p: u32, q: u32, new: &[Tri])
+    ensures sides { (a b : ℕ) → side_at sides.new a b ≡ side_without (p == a && q == b) new.now a b (side_at sides.old a b) }
     ensures spare { spare sides.old ≤ spare sides.new }
 {
-    sides.swap_remove(&Edge { from: p, to: q });
-    sides.swap_remove(&Edge { from: q, to: z });
-    sides.swap_remove(&Edge { from: z, to: p });
+    if !is_side_of(new, p, q) {
+        sides.swap_remove(&Edge { from: p, to: q });
+    }
+}
+
+// Strikes the directed edges of a triangle that none of the others has.
+fn strike_edges(sides: &mut SideMap, t: Tri, new: &[Tri])
+    ensures sides { (p q : ℕ) → side_at sides.new p q ≡ side_without (has_edge p q t) new.now p q (side_at sides.old p q) }
+    ensures spare { spare sides.old ≤ spare sides.new }
+{
+    strike(sides, t.a, t.b, new);
+    strike(sides, t.b, t.c, new);
+    strike(sides, t.c, t.a, new);
+}
+
+// Strikes the directed edges that a triangle of the first list has and none of the second.
+fn strike_all(sides: &mut SideMap, gone: &[Tri], new: &[Tri])
+    ensures sides { (p q : ℕ) → side_at sides.new p q
+        ≡ side_without (list_any (has_edge p q) gone.now) new.now p q (side_at sides.old p q) }
+    ensures spare { spare sides.old ≤ spare sides.new }
+{
+    for t in gone {
+        strike_edges(sides, *t, new);
+    }
 }
 
 // A node without triangles at each point.
@@ -108,6 +175,7 @@ fn raise(nodes: &mut Vec<Node>, n: u32)
     ensures counts { (k : ℕ) → triangles_at nodes.old.items n < 2 ^ 63
         → triangles_at nodes.new.items k ≡ cond (n == k) 1 0 + triangles_at nodes.old.items k }
     ensures places { HasSamePlaces nodes.old.items nodes.new.items }
+    ensures room { vec_capacity nodes.old ≤ vec_capacity nodes.new }
 {
     let node = nodes[n as usize];
     nodes[n as usize] = Node {
@@ -121,12 +189,63 @@ fn lower(nodes: &mut Vec<Node>, n: u32)
     requires { n < vec_len nodes.old }
     ensures counts { (k : ℕ) → triangles_at nodes.new.items k ≡ triangles_at nodes.old.items k - cond (n == k) 1 0 }
     ensures places { HasSamePlaces nodes.old.items nodes.new.items }
+    ensures room { vec_capacity nodes.old ≤ vec_capacity nodes.new }
 {
     let node = nodes[n as usize];
     nodes[n as usize] = Node {
         at: node.at,
         triangles: node.triangles.saturating_sub(1),
     };
+}
+
+// The corners of a triangle have one triangle more.
+fn raise_corners(nodes: &mut Vec<Node>, t: Tri)
+    requires { IsWithin nodes.old.items t }
+    ensures counts { IsTurned t → ((n : ℕ) → triangles_at nodes.old.items n < 2 ^ 62)
+        → (n : ℕ) → triangles_at nodes.new.items n ≡ cond (has_corner n t) 1 0 + triangles_at nodes.old.items n }
+    ensures places { HasSamePlaces nodes.old.items nodes.new.items }
+    ensures room { vec_capacity nodes.old ≤ vec_capacity nodes.new }
+{
+    raise(nodes, t.a);
+    raise(nodes, t.b);
+    raise(nodes, t.c);
+}
+
+// The corners of a triangle have one triangle less.
+fn lower_corners(nodes: &mut Vec<Node>, t: Tri)
+    requires { IsWithin nodes.old.items t }
+    ensures counts { IsTurned t → (n : ℕ) → triangles_at nodes.new.items n ≡ triangles_at nodes.old.items n - cond (has_corner n t) 1 0 }
+    ensures places { HasSamePlaces nodes.old.items nodes.new.items }
+    ensures room { vec_capacity nodes.old ≤ vec_capacity nodes.new }
+{
+    lower(nodes, t.a);
+    lower(nodes, t.b);
+    lower(nodes, t.c);
+}
+
+// The corners of each of the triangles have one triangle more for it.
+fn raise_all(nodes: &mut Vec<Node>, new: &[Tri])
+    requires { All (IsWithin nodes.old.items) new.now }
+    ensures counts { All IsTurned new.now → ((n : ℕ) → triangles_at nodes.old.items n + length new.now < 2 ^ 62)
+        → (n : ℕ) → triangles_at nodes.new.items n ≡ number_at n new.now + triangles_at nodes.old.items n }
+    ensures places { HasSamePlaces nodes.old.items nodes.new.items }
+    ensures room { vec_capacity nodes.old ≤ vec_capacity nodes.new }
+{
+    for t in new {
+        raise_corners(nodes, *t);
+    }
+}
+
+// The corners of each of the triangles have one triangle less for it.
+fn lower_all(nodes: &mut Vec<Node>, gone: &[Tri])
+    requires { All (IsWithin nodes.old.items) gone.now }
+    ensures counts { All IsTurned gone.now → (n : ℕ) → triangles_at nodes.new.items n ≡ triangles_at nodes.old.items n - number_at n gone.now }
+    ensures places { HasSamePlaces nodes.old.items nodes.new.items }
+    ensures room { vec_capacity nodes.old ≤ vec_capacity nodes.new }
+{
+    for t in gone {
+        lower_corners(nodes, *t);
+    }
 }
 
 impl EdgeTable {
@@ -140,7 +259,11 @@ impl EdgeTable {
         ensures empty { IfOk result (λ t. IsEmptyTable t.sides t.nodes.items points.now) }
         ensures room { IfOk result (λ t. 3 * triangles ≤ spare t.sides) }
     {
-        let Ok(sides) = IndexMap::with_capacity(alloc, 3 * triangles) else {
+        let Ok(sides) = IndexMap::with_capacity_and_hasher(
+            alloc,
+            3 * triangles,
+            BuildHasherDefault::new(),
+        ) else {
             return Err(NoMemory);
         };
         let nodes = nodes_of(alloc, points)?;
@@ -157,56 +280,12 @@ impl EdgeTable {
         ensures room { spare self.old.sides ≤ spare self.new.sides + 3 }
     {
         let _ = self.sides.len();
-        enter(&mut self.sides, t.a, t.b, t.c, t.owner);
-        raise(&mut self.nodes, t.a);
-        raise(&mut self.nodes, t.b);
-        raise(&mut self.nodes, t.c);
+        enter(&mut self.sides, t);
+        raise_corners(&mut self.nodes, t);
     }
 
-    // Takes a triangle out.
-    fn take(&mut self, t: Tri)
-        requires { IsWithin self.old.nodes.items t }
-        ensures shows { (ts : List Tri) → ShowsTriangles self.old.sides self.old.nodes.items ts → AreSound ts → Contains ts t
-            → ShowsTriangles self.new.sides self.new.nodes.items (without t ts) }
-        ensures places { HasSamePlaces self.old.nodes.items self.new.nodes.items }
-        ensures room { spare self.old.sides ≤ spare self.new.sides }
-    {
-        strike(&mut self.sides, t.a, t.b, t.c);
-        lower(&mut self.nodes, t.a);
-        lower(&mut self.nodes, t.b);
-        lower(&mut self.nodes, t.c);
-    }
-
-    // Takes each of the triangles out.
-    fn take_all(&mut self, gone: &[Tri])
-        requires { All (IsWithin self.old.nodes.items) gone.now }
-        ensures shows { (ts : List Tri) → ShowsTriangles self.old.sides self.old.nodes.items ts → CanTake gone.now ts
-            → ShowsTriangles self.new.sides self.new.nodes.items (without_all gone.now ts) }
-        ensures places { HasSamePlaces self.old.nodes.items self.new.nodes.items }
-        ensures room { spare self.old.sides ≤ spare self.new.sides }
-    {
-        for t in gone {
-            self.take(*t);
-        }
-    }
-
-    // Puts each of the triangles in.
-    fn put_all(&mut self, new: &[Tri])
-        requires within { All (IsWithin self.old.nodes.items) new.now }
-        requires room { 3 * length new.now ≤ spare self.old.sides }
-        ensures shows { (ts : List Tri) → ShowsTriangles self.old.sides self.old.nodes.items ts → AreFit new.now ts
-            → ShowsTriangles self.new.sides self.new.nodes.items (insert_all_by tri_lt new.now ts) }
-        ensures places { HasSamePlaces self.old.nodes.items self.new.nodes.items }
-        ensures room { spare self.old.sides ≤ spare self.new.sides + 3 * length new.now }
-    {
-        let mut left = new.len();
-        while left > 0 {
-            left -= 1;
-            self.put(new[left]);
-        }
-    }
-
-    /// The first triangles give way to the second.
+    /// The first triangles give way to the second. The second are entered first, so that the directed edges
+    /// that both have stay where they are.
     pub fn exchange(&mut self, gone: &[Tri], new: &[Tri])
         requires gone_within { All (IsWithin self.old.nodes.items) gone.now }
         requires new_within { All (IsWithin self.old.nodes.items) new.now }
@@ -215,9 +294,14 @@ impl EdgeTable {
             → ShowsTriangles self.new.sides self.new.nodes.items (exchanged gone.now new.now ts) }
         ensures places { HasSamePlaces self.old.nodes.items self.new.nodes.items }
         ensures room { spare self.old.sides ≤ spare self.new.sides + 3 * length new.now }
+        ensures names { vec_capacity self.old.nodes ≤ vec_capacity self.new.nodes }
     {
-        self.take_all(gone);
-        self.put_all(new);
+        let _ = self.sides.len();
+        enter_all(&mut self.sides, new);
+        strike_all(&mut self.sides, gone, new);
+        let _ = self.sides.len();
+        lower_all(&mut self.nodes, gone);
+        raise_all(&mut self.nodes, new);
     }
 
     /// The triangle on the left of the directed edge from `p` to `q`.
@@ -254,13 +338,18 @@ impl EdgeTable {
         self.site(n).unwrap_or(Point { x: 0, y: 0 })
     }
 
-    /// Makes room for so many triangles more.
-    pub fn reserve(&mut self, triangles: usize) -> Result<(), NoMemory>
-        requires { triangles < 2 ^ 32 }
+    /// Makes room for so many names, and for so many triangles more.
+    pub fn reserve(&mut self, names: usize, triangles: usize) -> Result<(), NoMemory>
+        requires { triangles < 2 ^ 40 }
         ensures sides { IsUnchanged self.old.sides self.new.sides }
         ensures nodes { self.new.nodes.items ≡ self.old.nodes.items }
+        ensures names { OnOk result (names ≤ vec_capacity self.new.nodes) }
         ensures ok { OnOk result (3 * triangles ≤ spare self.new.sides) }
     {
+        let more = names.saturating_sub(self.nodes.len());
+        if self.nodes.reserve(more).is_err() {
+            return Err(NoMemory);
+        }
         match self.sides.reserve(3 * triangles) {
             Ok(()) => Ok(()),
             Err(_) => Err(NoMemory),

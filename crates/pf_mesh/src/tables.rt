@@ -6,12 +6,11 @@ ghost use Rattle.pf_model.specs.Tables.{stand_round, are_corners};
 ghost use Rattle.pf_mesh.specs.Table.{Sides, side_at};
 ghost use Rattle.pf_mesh.specs.Tables.{three, owned_if, owned_side, owned_by_table};
 
-use crate::table::{Edge, Left};
-use indexmap::IndexMap;
+use crate::table::{Edge, Left, SideMap};
 use pf_model::Tri;
 
 // The side takes an owner, if its third corner is this one.
-fn own_side(sides: &mut IndexMap<Edge, Left>, p: u32, q: u32, apex: u32, owner: u16)
+fn own_side(sides: &mut SideMap, p: u32, q: u32, apex: u32, owner: u16)
     ensures sides { (a b : ℕ) → side_at sides.new a b
         ≡ option_map (λ s. owned_if (p == a && (q == b && apex == s.apex)) owner s) (side_at sides.old a b) }
     ensures len { index_map_len sides.new ≡ index_map_len sides.old }
@@ -24,7 +23,7 @@ fn own_side(sides: &mut IndexMap<Edge, Left>, p: u32, q: u32, apex: u32, owner: 
 }
 
 // The triangle takes an owner, if it stands in the table this way round.
-fn own_round(sides: &mut IndexMap<Edge, Left>, p: u32, q: u32, z: u32, owner: u16)
+fn own_round(sides: &mut SideMap, p: u32, q: u32, z: u32, owner: u16)
     ensures sides { (a b : ℕ) → side_at sides.new a b
         ≡ option_map (λ s. owned_if (stand_round a b s.apex (three p q z)) owner s) (side_at sides.old a b) }
     ensures len { index_map_len sides.new ≡ index_map_len sides.old }
@@ -35,7 +34,7 @@ fn own_round(sides: &mut IndexMap<Edge, Left>, p: u32, q: u32, z: u32, owner: u1
 }
 
 // The triangle with these corners takes an owner.
-fn own(sides: &mut IndexMap<Edge, Left>, corners: [u32; 3], owner: u16)
+fn own(sides: &mut SideMap, corners: [u32; 3], owner: u16)
     ensures sides { (a b : ℕ) → side_at sides.new a b
         ≡ option_map (λ s. owned_if (are_corners a b s.apex corners) owner s) (side_at sides.old a b) }
     ensures len { index_map_len sides.new ≡ index_map_len sides.old }
@@ -47,7 +46,7 @@ fn own(sides: &mut IndexMap<Edge, Left>, corners: [u32; 3], owner: u16)
 
 /// The triangles of the table take their owners by the list, from its last place on, so that the first
 /// with a triangle's corners counts.
-pub fn own_listed(sides: &mut IndexMap<Edge, Left>, listed: &[[u32; 3]], owners: &[u16])
+pub fn own_listed(sides: &mut SideMap, listed: &[[u32; 3]], owners: &[u16])
     requires { length owners.now ≡ length listed.now }
     ensures sides { (a b : ℕ) → side_at sides.new a b ≡ option_map (owned_side listed.now owners.now a b) (side_at sides.old a b) }
     ensures len { index_map_len sides.new ≡ index_map_len sides.old }
@@ -60,7 +59,7 @@ pub fn own_listed(sides: &mut IndexMap<Edge, Left>, listed: &[[u32; 3]], owners:
 }
 
 // The triangle with the owner that the table has.
-fn owned(t: Tri, sides: &IndexMap<Edge, Left>) -> Tri
+fn owned(t: Tri, sides: &SideMap) -> Tri
     ensures { result ≡ owned_by_table sides.now t }
 {
     match sides.get(&Edge { from: t.a, to: t.b }) {
@@ -73,7 +72,7 @@ fn owned(t: Tri, sides: &IndexMap<Edge, Left>) -> Tri
 }
 
 /// The triangles of the list take the owners that the table has.
-pub fn own_tris(tris: &mut Vec<Tri>, sides: &IndexMap<Edge, Left>)
+pub fn own_tris(tris: &mut Vec<Tri>, sides: &SideMap)
     ensures { tris.new.items ≡ map (owned_by_table sides.now) tris.old.items }
 {
     for t in tris.iter_mut() {

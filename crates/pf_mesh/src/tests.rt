@@ -7,6 +7,7 @@ ghost use Rattle.pf_model.specs.Tables.{AreListed};
 mod operations;
 mod rest;
 mod run;
+mod spare;
 mod tables;
 
 use super::*;
@@ -53,10 +54,10 @@ fn made(alloc: Global, points: &[Point], tris: &[[u32; 3]]) -> Result<Mesh, Buil
     requires few_points { length points.now < 1048576 }
     requires few_tris { length tris.now ≤ 2097152 }
     requires in_range { All IsInRange points.now }
-    ensures fresh { IfOk result (λ m. (n : ℕ) → IsLive m n → n < m.first_new) }
-    ensures few { IfOk result (λ m. m.first_new < 1048576) }
-    ensures names { IfOk result (λ m. m.first_new ≡ length points.now) }
-    ensures listed { IfOk result (λ m. AreListed tris.now m.tris) }
+    ensures fresh { IfOk result (λ m. (n : ℕ) → IsLive m.mesh n → n < m.mesh.first_new) }
+    ensures few { IfOk result (λ m. m.mesh.first_new < 1048576) }
+    ensures names { IfOk result (λ m. m.mesh.first_new ≡ length points.now) }
+    ensures listed { IfOk result (λ m. AreListed tris.now m.mesh.tris) }
 {
     let mesh = build(alloc, points, tris)?;
     Ok(mesh)
@@ -64,10 +65,10 @@ fn made(alloc: Global, points: &[Point], tris: &[[u32; 3]]) -> Result<Mesh, Buil
 
 // The first operation of a journal.
 fn flip(mesh: &mut Mesh, chunk: u16, a: u32, b: u32) -> Result<(), ApplyErr>
-    requires fresh { (n : ℕ) → IsLive mesh.old n → n < mesh.old.first_new }
-    requires few { mesh.old.first_new < 1048576 }
-    ensures fresh { (n : ℕ) → IsLive mesh.new n → n < mesh.new.first_new }
-    ensures few { mesh.new.first_new < 1048576 }
+    requires fresh { (n : ℕ) → IsLive mesh.old.mesh n → n < mesh.old.mesh.first_new }
+    requires few { mesh.old.mesh.first_new < 1048576 }
+    ensures fresh { (n : ℕ) → IsLive mesh.new.mesh n → n < mesh.new.mesh.first_new }
+    ensures few { mesh.new.mesh.first_new < 1048576 }
 {
     match mesh.apply(&Entry {
         ticket: 0,

@@ -1,13 +1,15 @@
--- Worked meshes, computed on the definitions: edges, boundary, cover, walks and rest lists.
-use Rattle.std.specs.Prelude.{◌≡◌, [], ◌∷◌, pos, negsuc, Some, None, refl}
+-- Worked meshes, computed on the definitions: edges, boundary, cover, walks, rest lists and their texts.
+use Rattle.std.specs.Prelude.{◌≡◌, [], ◌∷◌, pos, negsuc, Some, None, codes, refl}
+use Rattle.std.specs.Fmt.{digits}
 use Rattle.pf_model.specs.declared.Op.TheVariants.{Bisect}
 use Rattle.pf_model.specs.declared.RestLine.TheVariants as line
-use Rattle.pf_model.specs.declared.Cond.TheVariants.{Corner, OffBoundary}
+use Rattle.pf_model.specs.declared.Cond.TheVariants.{Corner, OffBoundary, Inverts}
 use Rattle.pf_model.specs.Mesh.{Undivided}
 use Rattle.pf_model.specs.Lengths.{edge_of}
 use Rattle.pf_model.specs.Applied.{applied}
 use Rattle.pf_model.specs.Sums.{edges_of, euler_of, boundary_of, cover_of}
 use Rattle.pf_model.specs.Wishes.{next_longer, terminal_of, rest_of}
+use Rattle.pf_model.specs.Texts.{rest_text}
 use Rattle.pf_model.proofs.Rows.{at, site, t, mesh, square, kite, kite_flipped}
 use Rattle.pf_model.proofs.OperationRows.{run, sized, quartered, tent}
 
@@ -105,3 +107,19 @@ kite-rest = refl
 -- the node on the straight side can go either way along it, and the other nodes are corners
 tent-rest : rest_of (sized (pos 17) (pos 1000) tent) ≡ line.Short 0 1 (Some Corner) None ∷ line.Short 1 2 None (Some Corner) ∷ line.Short 1 3 (Some OffBoundary) (Some Corner) ∷ []
 tent-rest = refl
+
+square-rest_text : rest_text (rest_of (sized (pos 0) (pos 15) square)) ≡ codes "parfum rest 1\nlong 0 1 at 0 2 passes\nlong 0 2 at 0 2 passes\nlong 0 3 at 0 2 passes\nlong 1 2 at 0 2 passes\nlong 2 3 at 0 2 passes\nend 5\n"
+unfolding digits
+square-rest_text = refl
+
+kite-rest_text : rest_text (rest_of kite) ≡ codes "parfum rest 1\nflip 0 1\nend 1\n"
+unfolding digits
+kite-rest_text = refl
+
+short-rest_text : rest_text (line.Short 0 1 (Some (Inverts 2 3)) (Some (Inverts 5 6)) ∷ []) ≡ codes "parfum rest 1\nshort 0 1 inverts 2 3 inverts 5 6\nend 1\n"
+unfolding digits
+short-rest_text = refl
+
+empty-rest_text : rest_text [] ≡ codes "parfum rest 1\nend 0\n"
+unfolding digits
+empty-rest_text = refl

@@ -1,5 +1,5 @@
 -- The texts that are written, as bytes. A text is a list of lines, and a line a list of words.
-use Rattle.std.specs.Prelude.{ℕ, ◌+◌, suc, List, [], ◌∷◌, ◌++◌, nat_lt, codes, decimal, flat_map, length, map, count_by, min, max}
+use Rattle.std.specs.Prelude.{ℕ, ◌+◌, suc, List, [], ◌∷◌, ◌++◌, Option, Some, None, nat_lt, codes, decimal, flat_map, length, map, count_by, min, max}
 use Rattle.std.specs.Fmt.{signed_decimal}
 use Rattle.std.specs.List.{join_with_byte}
 use Rattle.pf_geom.specs.declared.Point.{Point}
@@ -10,6 +10,8 @@ use Rattle.pf_model.specs.declared.Op.TheVariants.{Flip, Bisect, Contract}
 use Rattle.pf_model.specs.declared.Entry.{Entry}
 use Rattle.pf_model.specs.declared.Cond.{Cond}
 use Rattle.pf_model.specs.declared.Cond.TheVariants.{NoEdge, Foreign, OnBoundary, NotConvex, NotShorter, EdgeThere, TooShort, NotLongest, OddMidpoint, TooWide, Pinched, Corner, OffBoundary, LinkNode, Inverts, TooLong}
+use Rattle.pf_model.specs.declared.RestLine.{RestLine}
+use Rattle.pf_model.specs.declared.RestLine.TheVariants as line
 use Rattle.pf_model.specs.Mesh.{Undivided}
 use Rattle.pf_model.specs.Sums.{area2_of, euler_of, boundary_of}
 
@@ -93,6 +95,27 @@ condition_words OffBoundary = codes "off-boundary" ∷ []
 condition_words (LinkNode x) = codes "link-node" ∷ decimal x ∷ []
 condition_words (Inverts x y) = codes "inverts" ∷ decimal x ∷ decimal y ∷ []
 condition_words (TooLong a b) = codes "too-long" ∷ decimal a ∷ decimal b ∷ []
+
+-- the words of the condition that forbids an operation, or that it passes
+abbrev pub outcome_words : Option Cond → List (List ℕ)
+outcome_words None = codes "passes" ∷ []
+outcome_words (Some c) = condition_words c
+
+-- the words of a line of the rest list
+abbrev pub rest_words : RestLine → List (List ℕ)
+rest_words (line.Long a b c d bisect) = codes "long" ∷ decimal a ∷ decimal b ∷ codes "at" ∷ decimal c ∷ decimal d ∷ outcome_words bisect
+rest_words (line.Short a b onto_b onto_a) = codes "short" ∷ decimal a ∷ decimal b ∷ outcome_words onto_b ++ outcome_words onto_a
+rest_words (line.Flip a b) = codes "flip" ∷ decimal a ∷ decimal b ∷ []
+
+-- the text of a rest list
+abbrev pub rest_text : List RestLine → List ℕ
+rest_text lines =
+    lines_text (
+    (codes "parfum" ∷ codes "rest" ∷ codes "1" ∷ [])
+    ∷ map rest_words lines
+    ++ (codes "end" ∷ decimal (length lines) ∷ [])
+    ∷ []
+    )
 
 -- what every report says of a mesh
 abbrev pub mesh_lines : Undivided → List (List (List ℕ))

@@ -86,7 +86,7 @@ fn owner(mut words: Words<'_>) -> Result<u16, TableErr>
 /// Writes the owner of each triangle of a mesh on a line of its own, in the order of the mesh's
 /// triangles.
 pub fn part_text(alloc: Global, m: &Mesh) -> Result<Vec<u8>, NoMemory>
-    ensures { IfOk result (λ text. text.items ≡ part_text_of m.now.tris) }
+    ensures { IfOk result (λ text. text.items ≡ part_text_of m.now.mesh.tris) }
 {
     owners_text(alloc, m.tris())
 }

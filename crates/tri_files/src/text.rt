@@ -97,7 +97,7 @@ fn triangles_written(
 
 /// The text of the `.node` file: a line per live node by rising name, numbered from `base`.
 pub fn node_text(alloc: Global, m: &Mesh, base: u32) -> Result<Vec<u8>, NoMemory>
-    ensures { IfOk result (λ text. text.items ≡ mesh_node_text base m.now) }
+    ensures { IfOk result (λ text. text.items ≡ mesh_node_text base m.now.mesh) }
 {
     nodes_written(alloc, m.sites(), base).map_err(|_| NoMemory)
 }
@@ -105,7 +105,7 @@ pub fn node_text(alloc: Global, m: &Mesh, base: u32) -> Result<Vec<u8>, NoMemory
 /// The text of the `.ele` file: a line per triangle, least corner first, counterclockwise, rising by
 /// corners, numbered from `base`, with the numbers of the corners in the `.node` file of that base.
 pub fn ele_text(alloc: Global, m: &Mesh, base: u32) -> Result<Vec<u8>, NoMemory>
-    ensures { IfOk result (λ text. text.items ≡ mesh_ele_text base m.now) }
+    ensures { IfOk result (λ text. text.items ≡ mesh_ele_text base m.now.mesh) }
 {
     triangles_written(alloc, m.sites(), m.tris(), base).map_err(|_| NoMemory)
 }

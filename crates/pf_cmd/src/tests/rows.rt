@@ -2,36 +2,9 @@
 
 use super::*;
 
-const SQUARE_NODE: &[u8] = b"4 2 0 0\n0 0 0\n1 4 0\n2 4 4\n3 0 4\n";
-
-const SQUARE_ELE: &[u8] = b"2 3 0\n0 0 1 2\n1 0 2 3\n";
-
-// The files of a mesh.
-#[derive(Clone, Copy)]
-struct Input<'a> {
-    node: &'a [u8],
-    ele: &'a [u8],
-    part: &'a [u8],
-    size: &'a [u8],
-}
-
-const SQUARE: Input<'static> = Input {
-    node: SQUARE_NODE,
-    ele: SQUARE_ELE,
-    part: ONE_CHUNK,
-    size: ALL_LENGTHS,
-};
-
 const KITE: Input<'static> = Input {
     node: KITE_NODE,
     ele: KITE_ELE,
-    ..SQUARE
-};
-
-// The mesh of two triangles on a base line, with a node in the middle of it.
-const ROOF: Input<'static> = Input {
-    node: b"4 2 0 0\n0 0 0\n1 4 0\n2 8 0\n3 4 4\n",
-    ele: b"2 3 0\n0 0 1 3\n1 1 2 3\n",
     ..SQUARE
 };
 
@@ -70,17 +43,6 @@ const COVERED: Input<'static> = Input {
     part: b"0\n0\n0\n",
     size: ALL_LENGTHS,
 };
-
-fn shelf_of(alloc: Global, input: Input<'_>, journal: &[u8]) -> Result<MemShelf, Fail> {
-    let mut shelf = MemShelf::new(alloc, Vec::new(alloc));
-    shelf.put("k.node", input.node)?;
-    shelf.put("k.ele", input.ele)?;
-    shelf.put("k.part", input.part)?;
-    shelf.put("k.size", input.size)?;
-    shelf.put("o.journal", journal)?;
-    make_room(&mut shelf, 1000)?;
-    Ok(shelf)
-}
 
 // A replay ends with this status and says this.
 fn assert_ends(

@@ -18,8 +18,8 @@ sum_is c =
 pub loop-t-preserved : goal.loop-t-preserved
 loop-t-preserved c = record {
   summed =
-      subst (λ (z : ℤ). z +ℤ total (λ t. turn_at c.args.m.now t.a t.b t.c) (drop (c.loop-t.t-index + 1) c.tris-t-items.result.now) ≡ area2_of c.args.m.now) (sym (sum_is c))
-      (summed-next (λ t. turn_at c.args.m.now t.a t.b t.c) c.tris-t-items.result.now c.loop-t.t-index _ (to_z w128 c.loop-t.sum-bits) c.turn-sum.result (area2_of c.args.m.now)
+      subst (λ (z : ℤ). z +ℤ total (λ t. turn_at c.args.m.now.mesh t.a t.b t.c) (drop (c.loop-t.t-index + 1) c.tris-t-items.result.now) ≡ area2_of c.args.m.now.mesh) (sym (sum_is c))
+      (summed-next (λ t. turn_at c.args.m.now.mesh t.a t.b t.c) c.tris-t-items.result.now c.loop-t.t-index _ (to_z w128 c.loop-t.sum-bits) c.turn-sum.result (area2_of c.args.m.now.mesh)
       c.loop-t-test.true c.loop-t.invariant.summed c.turn-sum.ensures.value);
   within =
       subst (λ (z : ℤ). IsWithin (576460752303423488 * (c.loop-t.t-index + 1)) z) (sym (sum_is c))

@@ -7,6 +7,6 @@ use Rattle.pf_forms.proofs.area2.Given as goal
 
 abbrev pub invariant-loop-t : goal.invariant-loop-t
 invariant-loop-t l = record {
-  summed : l.sum +ℤ total (λ t. turn_at l.m t.a t.b t.c) (drop l.t-index l.t-items) ≡ area2_of l.m;
+  summed : l.sum +ℤ total (λ t. turn_at l.m.mesh t.a t.b t.c) (drop l.t-index l.t-items) ≡ area2_of l.m.mesh;
   within : IsWithin (576460752303423488 * l.t-index) l.sum;
 }

@@ -9,9 +9,9 @@ use Rattle.pf_forms.proofs.boundary.Goals as goal
 
 pub returns : goal.returns
 returns c =
-    let are : AreEdgesOf c.args.m.now.tris c.deref.result.now = rw (← c.tris.ensures.value, c.deref.ensures.value) c.in_ok-edges.ensures in
+    let are : AreEdgesOf c.args.m.now.mesh.tris c.deref.result.now = rw (← c.tris.ensures.value, c.deref.ensures.value) c.in_ok-edges.ensures in
     IfOk-weaker c.open_edges.result
     (λ found. (ts : List Tri) → AreEdgesOf ts c.deref.result.now → map edge_at found.items ≡ filter (is_open ts) (map edge_at c.deref.result.now))
-    (λ edges. map edge_at edges.items ≡ boundary_of c.args.m.now)
-    (λ found h. h c.args.m.now.tris are ∙ open-are_boundary c.args.m.now c.deref.result.now c.tris.ensures.conforming are)
+    (λ edges. map edge_at edges.items ≡ boundary_of c.args.m.now.mesh)
+    (λ found h. h c.args.m.now.mesh.tris are ∙ open-are_boundary c.args.m.now.mesh c.deref.result.now c.tris.ensures.conforming are)
     c.open_edges.ensures

@@ -9,7 +9,7 @@ use Rattle.pf_forms.proofs.euler.Goals as goal
 
 pub returns : goal.returns
 returns c =
-    let are : AreEdgesOf c.args.m.now.tris c.deref.result.now = rw (← c.tris.ensures.value, c.deref.ensures.value) c.in_ok-edges.ensures in
-    let count : c.count_edges-count.result ≡ length (edges_of c.args.m.now) = c.count_edges-count.ensures.count c.args.m.now.tris are ∙ counted-are_edges c.args.m.now c.deref.result.now c.tris.ensures.conforming are in
+    let are : AreEdgesOf c.args.m.now.mesh.tris c.deref.result.now = rw (← c.tris.ensures.value, c.deref.ensures.value) c.in_ok-edges.ensures in
+    let count : c.count_edges-count.result ≡ length (edges_of c.args.m.now.mesh) = c.count_edges-count.ensures.count c.args.m.now.mesh.tris are ∙ counted-are_edges c.args.m.now.mesh c.deref.result.now c.tris.ensures.conforming are in
     let same : to_z w64 (of_z w64 c.alternating.result) ≡ c.alternating.result = to_z-of_z w64 c.alternating.result (search rules) in
     same ∙ rw (← count, ← c.sites.ensures.value, ← c.tris-2.ensures.value) c.alternating.ensures

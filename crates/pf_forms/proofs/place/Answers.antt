@@ -7,5 +7,5 @@ use Rattle.pf_forms.proofs.place.Goals as goal
 
 pub returns-clause-in_range : goal.returns-clause-in_range
 returns-clause-in_range c =
-    let value : c.unwrap_or.result ≡ place_of c.args.m.now c.args.n = search rules in
-    subst (λ (p : Point). IsInRange p) (sym value) (place_of-in_range c.args.m.now c.args.n c.site.ensures.conforming)
+    let value : c.unwrap_or.result ≡ place_of c.args.m.now.mesh c.args.n = search rules in
+    subst (λ (p : Point). IsInRange p) (sym value) (place_of-in_range c.args.m.now.mesh c.args.n c.site.ensures.conforming)

@@ -20,8 +20,8 @@ fn made(alloc: Global, points: &[Point], tris: &[[u32; 3]]) -> Result<Mesh, Buil
     requires few_points { length points.now ≤ 1048576 }
     requires few_tris { length tris.now ≤ 2097152 }
     requires in_range { All IsInRange points.now }
-    ensures fresh { IfOk result (λ m. (n : ℕ) → IsLive m n → n < m.first_new) }
-    ensures names { IfOk result (λ m. m.first_new ≡ length points.now) }
+    ensures fresh { IfOk result (λ m. (n : ℕ) → IsLive m.mesh n → n < m.mesh.first_new) }
+    ensures names { IfOk result (λ m. m.mesh.first_new ≡ length points.now) }
 {
     let mesh = build(alloc, points, tris)?;
     Ok(mesh)
@@ -29,8 +29,8 @@ fn made(alloc: Global, points: &[Point], tris: &[[u32; 3]]) -> Result<Mesh, Buil
 
 // The square, cut from 0 to 2.
 fn square(alloc: Global) -> Result<Mesh, BuildErr>
-    ensures fresh { IfOk result (λ m. (n : ℕ) → IsLive m n → n < m.first_new) }
-    ensures names { IfOk result (λ m. m.first_new ≡ 4) }
+    ensures fresh { IfOk result (λ m. (n : ℕ) → IsLive m.mesh n → n < m.mesh.first_new) }
+    ensures names { IfOk result (λ m. m.mesh.first_new ≡ 4) }
 {
     let mesh = made(alloc, &CORNERS, &[[0, 1, 2], [0, 2, 3]])?;
     Ok(mesh)

@@ -1,127 +1,164 @@
 //! Where walks to longer edges end, noted for each edge on their way, so that walks share their tails.
-ghost use Rattle.std.specs.Prelude.{◌≡◌, None, OnOk, IfOk};
-ghost use Rattle.indexmap.specs.IndexMap.{get};
+ghost use Rattle.std.specs.Prelude.{◌≡◌, ◌<◌, ◌∷◌, [], List, All, Some, OnOk, IfOk, IfSome, length, slice_get};
 ghost use Rattle.pf_model.specs.Mesh.{Undivided};
+ghost use Rattle.pf_model.specs.Conforming.{IsConforming};
+ghost use Rattle.pf_model.specs.Lengths.{Edge};
 ghost use Rattle.pf_model.specs.Wishes.{terminal_of};
-ghost use Rattle.pf_mesh.specs.Lengths.{span_value};
-ghost use Rattle.pf_mesh.specs.Rest.{AreEnds, IsFinite};
-ghost use Rattle.pf_mesh.specs.Table.{edge_eq, AreInRange, Shows};
+ghost use Rattle.pf_mesh.specs.declared.rest.edges.Sided.{Sided};
+ghost use Rattle.pf_mesh.specs.Rest.{sided_edge, IsSided, IsListed, IsSpot, AreAtEnds, IsEnd, IsFinite, LeadTo};
+ghost use Rattle.pf_mesh.specs.Table.{AreInRange, Shows, Sides};
 
-use crate::lengths::{Span, span_of};
-use crate::table::{Edge, EdgeTable};
-use indexmap::IndexMap;
+use crate::lengths::Span;
+use crate::rest::edges::{Edges, Sided, Spot};
+use crate::table::EdgeTable;
 use pf_geom::NoMemory;
-use pf_model::Band;
-use std::alloc::Global;
+use pf_model::{Band, Cond};
 
-// Where the walk from an edge ends, if that is noted.
-fn known_end(ends: &IndexMap<Edge, Span>, e: Span) -> Option<Span>
-    ensures { result ≡ get edge_eq ends.now record { from = e.lo; to = e.hi } }
-{
-    let key = Edge {
-        from: e.lo,
-        to: e.hi,
-    };
-    ends.get(&key).copied()
+/// Where a walk ends, and the first condition that the bisection of this edge fails.
+#[derive(Clone, Copy, Debug, PartialEq, Eq)]
+pub struct End {
+    pub edge: Span,
+    pub cond: Option<Cond>,
 }
 
-// Notes where the walk from an edge ends.
-fn note_end(ends: &mut IndexMap<Edge, Span>, e: Span, end: Span) -> Result<(), NoMemory>
-    ensures { OnOk result ((m : Undivided) → AreEnds m ends.old → span_value end ≡ terminal_of m (span_value e) → AreEnds m ends.new) }
+// Makes room for the ends of the walks from so many edges, where there is none yet.
+fn make_room(ends: &mut Vec<Option<End>>, edges: usize) -> Result<(), NoMemory>
+    ensures { OnOk result ((m : Undivided) (edges : List Sided) → AreAtEnds m edges ends.old.items → AreAtEnds m edges ends.new.items) }
 {
-    let key = Edge {
-        from: e.lo,
-        to: e.hi,
-    };
-    match ends.insert(key, end) {
-        Ok(_) => Ok(()),
+    if !ends.is_empty() {
+        return Ok(());
+    }
+    match ends.resize(edges, None) {
+        Ok(()) => Ok(()),
         Err(_) => Err(NoMemory),
     }
 }
 
+// Where the walk from an edge ends, if that is noted.
+fn known_end(ends: &[Option<End>], at: Spot) -> Option<End>
+    ensures { IfSome result (λ end. (m : Undivided) (table : Sides) (edges : List Sided) (e : Edge) → IsSpot table edges e at → AreAtEnds m edges ends.now
+        → IsEnd m (terminal_of m e) end) }
+{
+    let Some(place) = at.place else {
+        return None;
+    };
+    if place < ends.len() {
+        ends[place]
+    } else {
+        None
+    }
+}
+
+// Notes where the walk from the edge at a place ends.
+fn note_end(ends: &mut Vec<Option<End>>, place: usize, end: End)
+    ensures { (m : Undivided) (edges : List Sided) (t : Edge) → AreAtEnds m edges ends.old.items → LeadTo m edges (place ∷ []) t → IsEnd m t end
+        → AreAtEnds m edges ends.new.items }
+{
+    if place >= ends.len() {
+        return;
+    }
+    ends[place] = Some(end);
+}
+
+// Notes where the walks from the edges at these places end.
+fn note_way(ends: &mut Vec<Option<End>>, way: &[usize], end: End)
+    ensures { (m : Undivided) (edges : List Sided) (t : Edge) → AreAtEnds m edges ends.old.items → LeadTo m edges way.now t → IsEnd m t end
+        → AreAtEnds m edges ends.new.items }
+{
+    for place in way {
+        note_end(ends, *place, end);
+    }
+}
+
+// Appends the place of an edge, where it has one.
+fn push_place(way: &mut Vec<usize>, at: Spot) -> Result<(), NoMemory>
+    ensures { OnOk result ((m : Undivided) (table : Sides) (edges : List Sided) (e t : Edge) → IsSpot table edges e at → terminal_of m e ≡ t
+        → LeadTo m edges way.old.items t → LeadTo m edges way.new.items t) }
+{
+    if let Some(place) = at.place {
+        if way.push(place).is_err() {
+            return Err(NoMemory);
+        }
+    }
+    Ok(())
+}
+
 impl EdgeTable {
-    // Where the walk from an edge ends. It goes no further than to an edge whose end is noted.
-    fn end_from(&self, ends: &IndexMap<Edge, Span>, e: Span) -> Span
+    // The end of a walk at this edge.
+    fn end_at(&self, bands: &[Band], e: Sided) -> End
         requires { AreInRange self.now.nodes.items }
-        ensures { (m : Undivided) → Shows self.now.sides self.now.nodes.items m → AreEnds m ends.now → IsFinite m (span_value e)
-            → span_value result ≡ terminal_of m (span_value e) }
+        ensures { (m : Undivided) → IsConforming m → Shows self.now.sides self.now.nodes.items m → m.bands ≡ bands.now → IsSided self.now.sides e
+            → IsEnd m (sided_edge e) result }
+    {
+        let (lo, hi) = (e.span.lo, e.span.hi);
+        let chunk = self.acting_chunk(e);
+        End {
+            edge: e.span,
+            cond: self.bisect_condition(bands, chunk, lo, hi, e.flanks),
+        }
+    }
+
+    // Where the walk from an edge ends, and the places on its way. It goes no further than to an edge whose
+    // end is noted.
+    fn end_from(
+        &self,
+        bands: &[Band],
+        edges: &Edges,
+        ends: &[Option<End>],
+        way: &mut Vec<usize>,
+        e: Spot,
+    ) -> Result<End, NoMemory>
+        requires in_range { AreInRange self.now.nodes.items }
+        requires listed { All (IsListed self.now.sides) edges.now.list.items }
+        requires spot { IsSpot self.now.sides edges.now.list.items (sided_edge e.edge) e }
+        requires empty { way.old.items ≡ [] }
+        ensures end { IfOk result (λ end. (m : Undivided) → IsConforming m → Shows self.now.sides self.now.nodes.items m → m.bands ≡ bands.now
+            → AreAtEnds m edges.now.list.items ends.now → IsFinite m (sided_edge e.edge) → IsEnd m (terminal_of m (sided_edge e.edge)) end) }
+        ensures way { OnOk result ((m : Undivided) → Shows self.now.sides self.now.nodes.items m → AreAtEnds m edges.now.list.items ends.now
+            → IsFinite m (sided_edge e.edge) → LeadTo m edges.now.list.items way.new.items (terminal_of m (sided_edge e.edge))) }
     {
         let mut at = e;
         let mut most = self.sides.len();
         'walk: while most > 0 {
             if let Some(end) = known_end(ends, at) {
-                return end;
+                return Ok(end);
             }
-            let Some(next) = self.next_longer(at) else {
-                return at;
+            push_place(way, at)?;
+            let Some(next) = self.next_longer(at.edge) else {
+                return Ok(self.end_at(bands, at.edge));
             };
-            at = next;
+            at = self.locate(edges, next);
             most -= 1;
         }
-        at
+        Ok(self.end_at(bands, at.edge))
     }
 
-    // Notes the end of the walk from an edge for each edge on its way, up to one whose end is noted.
-    fn note_walk(&self, ends: &mut IndexMap<Edge, Span>, e: Span, end: Span) -> Result<(), NoMemory>
-        requires { AreInRange self.now.nodes.items }
-        ensures { OnOk result ((m : Undivided) → Shows self.now.sides self.now.nodes.items m → AreEnds m ends.old → IsFinite m (span_value e)
-            → span_value end ≡ terminal_of m (span_value e) → AreEnds m ends.new) }
-    {
-        let mut at = e;
-        let mut most = self.sides.len();
-        'walk: while most > 0 {
-            if known_end(ends, at).is_some() {
-                return Ok(());
-            }
-            note_end(ends, at, end)?;
-            let Some(next) = self.next_longer(at) else {
-                return Ok(());
-            };
-            at = next;
-            most -= 1;
-        }
-        Ok(())
-    }
-
-    // Walks from an edge, and notes where that ends.
-    fn follow(&self, ends: &mut IndexMap<Edge, Span>, a: u32, b: u32) -> Result<(), NoMemory>
-        requires { AreInRange self.now.nodes.items }
-        ensures { OnOk result ((m : Undivided) → Shows self.now.sides self.now.nodes.items m → AreEnds m ends.old → AreEnds m ends.new) }
-    {
-        let e = span_of(a, b);
-        let end = self.end_from(ends, e);
-        self.note_walk(ends, e, end)?;
-        Ok(())
-    }
-
-    /// Where the walk from an edge ends, as it is noted, and else by the walk.
-    pub fn end_of(&self, ends: &IndexMap<Edge, Span>, e: Span) -> Span
-        requires { AreInRange self.now.nodes.items }
-        ensures { (m : Undivided) → Shows self.now.sides self.now.nodes.items m → AreEnds m ends.now → span_value result ≡ terminal_of m (span_value e) }
-    {
-        match known_end(ends, e) {
-            Some(end) => end,
-            None => self.terminal(e),
-        }
-    }
-
-    /// Where the walks from the long ones of these edges end. Each edge is walked on from at most twice,
-    /// however many walks come through it.
-    pub fn known_ends(
+    /// Where the walk from the edge at a place ends, which is noted then for all edges on its way. So each edge is walked
+    /// on from at most once, however many walks come through it.
+    pub fn follow(
         &self,
-        alloc: Global,
         bands: &[Band],
-        edges: &[Span],
-    ) -> Result<IndexMap<Edge, Span>, NoMemory>
-        requires { AreInRange self.now.nodes.items }
-        ensures { IfOk result (λ ends. (m : Undivided) → Shows self.now.sides self.now.nodes.items m → AreEnds m ends) }
+        edges: &Edges,
+        ends: &mut Vec<Option<End>>,
+        way: &mut Vec<usize>,
+        place: usize,
+    ) -> Result<End, NoMemory>
+        requires in_range { AreInRange self.now.nodes.items }
+        requires listed { All (IsListed self.now.sides) edges.now.list.items }
+        requires place { place < length edges.now.list.items }
+        ensures end { IfOk result (λ end. (m : Undivided) (e : Sided) → IsConforming m → Shows self.now.sides self.now.nodes.items m → m.bands ≡ bands.now
+            → AreAtEnds m edges.now.list.items ends.old.items → slice_get edges.now.list.items place ≡ Some e → IsEnd m (terminal_of m (sided_edge e)) end) }
+        ensures noted { OnOk result ((m : Undivided) → IsConforming m → Shows self.now.sides self.now.nodes.items m → m.bands ≡ bands.now
+            → AreAtEnds m edges.now.list.items ends.old.items → AreAtEnds m edges.now.list.items ends.new.items) }
     {
-        let mut ends = IndexMap::new(alloc);
-        for e in edges {
-            if self.is_long(bands, e.lo, e.hi) {
-                self.follow(&mut ends, e.lo, e.hi)?;
-            }
-        }
-        Ok(ends)
+        make_room(ends, edges.list.len())?;
+        way.clear();
+        let e = Spot {
+            edge: edges.list[place],
+            place: Some(place),
+        };
+        let end = self.end_from(bands, edges, ends, way, e)?;
+        note_way(ends, way, end);
+        Ok(end)
     }
 }

@@ -1,23 +1,24 @@
-//! The walk from an edge to longer edges, and where it ends (Rivara).
+//! The walk from an edge to longer edges (Rivara).
 ghost use Rattle.std.specs.Prelude.{◌≡◌};
 ghost use Rattle.std.specs.Option.{option_map};
-ghost use Rattle.pf_model.specs.Mesh.{Undivided, side_of};
-ghost use Rattle.pf_model.specs.Wishes.{longer_on, next_longer, terminal_of};
+ghost use Rattle.pf_model.specs.Mesh.{Undivided};
+ghost use Rattle.pf_model.specs.Wishes.{longer_on, next_longer};
 ghost use Rattle.pf_mesh.specs.Lengths.{span_value};
-ghost use Rattle.pf_mesh.specs.Table.{AreInRange, Shows};
+ghost use Rattle.pf_mesh.specs.Rest.{sided_edge, IsSided};
+ghost use Rattle.pf_mesh.specs.Table.{AreInRange, Shows, side_value};
 
 use crate::lengths::Span;
-use crate::table::EdgeTable;
+use crate::rest::edges::Sided;
+use crate::table::{EdgeTable, Left};
 
 impl EdgeTable {
-    // The longest edge of the triangle on the left of the edge from `p` to `q`, where it is another one
-    // than this edge.
-    fn other_longest(&self, e: Span, p: u32, q: u32) -> Option<Span>
+    // The longest edge of the triangle on a side of the edge, where it is another one than this edge.
+    fn other_longest(&self, e: Span, side: Option<Left>) -> Option<Span>
         requires { AreInRange self.now.nodes.items }
         ensures { (m : Undivided) → Shows self.now.sides self.now.nodes.items m
-            → option_map span_value result ≡ longer_on m (span_value e) (side_of m.tris p q) }
+            → option_map span_value result ≡ longer_on m (span_value e) (option_map side_value side) }
     {
-        let Some(left) = self.side(p, q) else {
+        let Some(left) = side else {
             return None;
         };
         let longest = self.longest(e.lo, e.hi, left.apex);
@@ -29,30 +30,14 @@ impl EdgeTable {
 
     /// Where the walk goes on: to the longest edge of the first triangle that has a longer one, the left one
     /// looked at first.
-    pub fn next_longer(&self, e: Span) -> Option<Span>
+    pub fn next_longer(&self, e: Sided) -> Option<Span>
         requires { AreInRange self.now.nodes.items }
-        ensures { (m : Undivided) → Shows self.now.sides self.now.nodes.items m → option_map span_value result ≡ next_longer m (span_value e) }
+        ensures { (m : Undivided) → Shows self.now.sides self.now.nodes.items m → IsSided self.now.sides e
+            → option_map span_value result ≡ next_longer m (sided_edge e) }
     {
-        match self.other_longest(e, e.lo, e.hi) {
+        match self.other_longest(e.span, e.flanks.left) {
             Some(next) => Some(next),
-            None => self.other_longest(e, e.hi, e.lo),
+            None => self.other_longest(e.span, e.flanks.right),
         }
-    }
-
-    /// Where the walk from an edge ends: an edge that is the longest in all its triangles.
-    pub fn terminal(&self, e: Span) -> Span
-        requires { AreInRange self.now.nodes.items }
-        ensures { (m : Undivided) → Shows self.now.sides self.now.nodes.items m → span_value result ≡ terminal_of m (span_value e) }
-    {
-        let mut at = e;
-        let mut most = self.sides.len();
-        'walk: while most > 0 {
-            let Some(next) = self.next_longer(at) else {
-                return at;
-            };
-            at = next;
-            most -= 1;
-        }
-        at
     }
 }

@@ -22,21 +22,21 @@ fn opened(alloc: Global, points: &[Point], tris: &[[u32; 3]]) -> Result<Mesh, Bu
     requires few_points { length points.now ≤ 1000 }
     requires few_tris { length tris.now ≤ 1000 }
     requires in_range { All IsInRange points.now }
-    ensures listed { IfOk result (λ m. AreListed tris.now m.tris) }
-    ensures fresh { IfOk result (λ m. IsFresh m 0) }
-    ensures few { IfOk result (λ m. m.first_new ≤ 1000) }
+    ensures listed { IfOk result (λ m. AreListed tris.now m.mesh.tris) }
+    ensures fresh { IfOk result (λ m. IsFresh m.mesh 0) }
+    ensures few { IfOk result (λ m. m.mesh.first_new ≤ 1000) }
 {
     let mesh = build(alloc, points, tris)?;
     Ok(mesh)
 }
 
 // The operation with this ticket, by chunk 0.
-fn apply(mesh: &mut Mesh, ticket: u32, op: Op) -> Result<(), ApplyErr>
-    requires fresh { IsFresh mesh.old ticket }
-    requires few { mesh.old.first_new ≤ 1000 }
+pub(super) fn apply(mesh: &mut Mesh, ticket: u32, op: Op) -> Result<(), ApplyErr>
+    requires fresh { IsFresh mesh.old.mesh ticket }
+    requires few { mesh.old.mesh.first_new ≤ 1000 }
     requires early { ticket ≤ 1000 }
-    ensures fresh { IsFresh mesh.new (ticket + 1) }
-    ensures few { mesh.new.first_new ≤ 1000 }
+    ensures fresh { IsFresh mesh.new.mesh (ticket + 1) }
+    ensures few { mesh.new.mesh.first_new ≤ 1000 }
 {
     let chunk = 0;
     match mesh.apply(&Entry { ticket, chunk, op }) {

@@ -56,8 +56,8 @@ fn sized(
     requires few_points { length points.now < 1048576 }
     requires few_tris { length tris.now ≤ 2097152 }
     requires in_range { All IsInRange points.now }
-    ensures fresh { IfOk result (λ m. (n : ℕ) → IsLive m n → n < m.first_new) }
-    ensures few { IfOk result (λ m. m.first_new < 1048576) }
+    ensures fresh { IfOk result (λ m. (n : ℕ) → IsLive m.mesh n → n < m.mesh.first_new) }
+    ensures few { IfOk result (λ m. m.mesh.first_new < 1048576) }
 {
     let mesh = made(alloc, points, tris)?;
     let owners = one_chunk(alloc, tris.len())?;
@@ -68,8 +68,8 @@ fn sized(
 
 // Bisects an edge, as the first operation of a journal.
 fn bisect(mesh: &mut Mesh, a: u32, b: u32) -> Result<(), ApplyErr>
-    requires fresh { (n : ℕ) → IsLive mesh.old n → n < mesh.old.first_new }
-    requires few { mesh.old.first_new < 1048576 }
+    requires fresh { (n : ℕ) → IsLive mesh.old.mesh n → n < mesh.old.mesh.first_new }
+    requires few { mesh.old.mesh.first_new < 1048576 }
 {
     mesh.apply(&Entry {
         ticket: 0,

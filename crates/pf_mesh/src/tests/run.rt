@@ -7,9 +7,9 @@ use super::*;
 
 // Applies the entries one after another, up to the first that isn't applied.
 fn one_by_one(mesh: &mut Mesh, entries: &[Entry]) -> Result<(), ApplyErr>
-    requires fresh { IsFresh mesh.old 0 }
+    requires fresh { IsFresh mesh.old.mesh 0 }
     requires tickets { HasTickets entries.now }
-    requires named { mesh.old.first_new + length entries.now ≤ 1048576 }
+    requires named { mesh.old.mesh.first_new + length entries.now ≤ 1048576 }
 {
     for entry in entries {
         match mesh.apply(entry) {
@@ -21,9 +21,9 @@ fn one_by_one(mesh: &mut Mesh, entries: &[Entry]) -> Result<(), ApplyErr>
 }
 
 // The kite, with four names.
-fn kite(alloc: Global) -> Result<Mesh, BuildErr>
-    ensures fresh { IfOk result (λ m. IsFresh m 0) }
-    ensures names { IfOk result (λ m. m.first_new ≡ 4) }
+pub(super) fn kite(alloc: Global) -> Result<Mesh, BuildErr>
+    ensures fresh { IfOk result (λ m. IsFresh m.mesh 0) }
+    ensures names { IfOk result (λ m. m.mesh.first_new ≡ 4) }
 {
     let mesh = made(alloc, &KITE, &[[0, 1, 2], [1, 0, 3]])?;
     Ok(mesh)

@@ -40,8 +40,8 @@ fn laid(
     requires few_points { length points.now < 1048576 }
     requires in_range { All IsInRange points.now }
     requires owned { All (λ owner. owner < 2) owners }
-    ensures fresh { IfOk result (λ m. (n : ℕ) → IsLive m n → n < m.first_new) }
-    ensures few { IfOk result (λ m. m.first_new < 1048576) }
+    ensures fresh { IfOk result (λ m. (n : ℕ) → IsLive m.mesh n → n < m.mesh.first_new) }
+    ensures few { IfOk result (λ m. m.mesh.first_new < 1048576) }
 {
     let mesh = made(alloc, points, listed)?;
     let owners = Vec::from_array(alloc, owners)?;

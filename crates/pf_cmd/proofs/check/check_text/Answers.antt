@@ -20,8 +20,8 @@ returns-clause-text c =
     c.in_ok-put_chunks.ensures
     ∙ (ap (λ t. t ++ line_text (codes "chunks" ∷ decimal c.args.chunks ∷ []))
     (c.in_ok-put_boundary.ensures.text
-    ∙ ap (λ t. t ++ line_text (codes "boundary" ∷ decimal (length (boundary_of c.args.mesh.now)) ∷ []))
+    ∙ ap (λ t. t ++ line_text (codes "boundary" ∷ decimal (length (boundary_of c.args.mesh.now.mesh)) ∷ []))
     (c.in_ok-put_euler.ensures.text
-    ∙ ap (λ t. t ++ line_text (codes "euler" ∷ signed_decimal (euler_of c.args.mesh.now) ∷ []))
-    (c.in_ok-put_mesh.ensures ∙ ap (λ t. t ++ lines_text (mesh_lines c.args.mesh.now)) c.new-text.ensures.items)))
-    ∙ three_behind (mesh_lines c.args.mesh.now) (codes "euler" ∷ signed_decimal (euler_of c.args.mesh.now) ∷ []) (codes "boundary" ∷ decimal (length (boundary_of c.args.mesh.now)) ∷ []) (codes "chunks" ∷ decimal c.args.chunks ∷ []))
+    ∙ ap (λ t. t ++ line_text (codes "euler" ∷ signed_decimal (euler_of c.args.mesh.now.mesh) ∷ []))
+    (c.in_ok-put_mesh.ensures ∙ ap (λ t. t ++ lines_text (mesh_lines c.args.mesh.now.mesh)) c.new-text.ensures.items)))
+    ∙ three_behind (mesh_lines c.args.mesh.now.mesh) (codes "euler" ∷ signed_decimal (euler_of c.args.mesh.now.mesh) ∷ []) (codes "boundary" ∷ decimal (length (boundary_of c.args.mesh.now.mesh)) ∷ []) (codes "chunks" ∷ decimal c.args.chunks ∷ []))

@@ -33,7 +33,7 @@ returns-in-Ok-clause-mesh g c = λ tells.
     (reads-later _ _ (λ look. triangles_in look (stems_of c.args.stems) (vertices_of c.in_ok-nodes.nodes)) _ c.in_ok-nodes.ensures.only_read c.in_ok-triangles.ensures.triangles tells)
     ∙ ap (λ r. build_accepted r >>= (λ mesh. Ok record { base = c.in_ok-nodes.nodes.base; mesh = mesh; triangles = c.in_ok-triangles.triangles.items })) made)
   where
-    made : built c.in_ok-nodes.nodes.points.items c.in_ok-triangles.triangles.items ≡ Ok c.in-Ok.mesh
+    made : built c.in_ok-nodes.nodes.points.items c.in_ok-triangles.triangles.items ≡ Ok c.in-Ok.mesh.mesh
     made = rw (← c.deref.ensures.value, ← c.deref-2.ensures.value) c.in-Ok.ensures.ok
 
 pub returns-clause-stop : goal.returns-clause-stop
@@ -49,4 +49,4 @@ returns-clause-stop g c =
     refused = rw (← c.deref.ensures.value, ← c.deref-2.ensures.value) (λ ne. c.in-Err.ensures.fault c.in-Err.fault refl ne)
 
 pub returns-in-Ok-clause-fresh : goal.returns-in-Ok-clause-fresh
-returns-in-Ok-clause-fresh g c = λ n live. let b = built-fresh c.deref.result.now c.deref-2.result.now c.in-Ok.mesh c.in-Ok.ensures.ok n live in omega (arith, b)
+returns-in-Ok-clause-fresh g c = λ n live. let b = built-fresh c.deref.result.now c.deref-2.result.now c.in-Ok.mesh.mesh c.in-Ok.ensures.ok n live in omega (arith, b)

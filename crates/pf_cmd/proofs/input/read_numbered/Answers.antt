@@ -1,16 +1,11 @@
-use Rattle.std.proofs.Common.{◌≡◌, ◌∙◌, ap, Result, Ok, sym}
+use Rattle.std.proofs.Common.{◌≡◌, ◌∙◌, ap, Ok, sym}
 use Rattle.std.proofs.lemmas.Result.{err_from_is_err_and}
 use Rattle.pf_shelf.specs.Files.{held}
-use Rattle.pf_geom.specs.declared.NoMemory.{NoMemory}
-use Rattle.pf_model.specs.Mesh.{Undivided}
 use Rattle.pf_model.specs.Tables.{with_tables_of}
 use Rattle.pf_cmd.specs.Shown.{stems_of, parted_of}
 use Rattle.pf_cmd.specs.Input.{◌>>=◌, Parted, bands_in, numbered_in}
 use Rattle.pf_cmd.proofs.Reading.{explains-then, explains-next, explains-later, reads-later}
 use Rattle.pf_cmd.proofs.input.read_numbered.Goals as goal
-
-ok_same : (x y : Undivided) → (let a : Result Undivided NoMemory = Ok x in a ≡ Ok y) → x ≡ y
-ok_same x y e = cc
 
 pub returns-in_err-listed-clause-stop : goal.returns-in_err-listed-clause-stop
 unfolding numbered_in
@@ -36,10 +31,10 @@ returns-clause-mesh g c = λ tells.
     (reads-later _ _ (λ look. bands_in look (stems_of c.args.stems)) _ c.in_ok-listed.ensures.only_read c.in_ok-bands.ensures.bands tells)
     ∙ ap (λ m. Ok record { base = read.listed.base; mesh = m }) made)
   where
-    laid : with_tables_of c.in_ok-listed.field-0.listed.triangles.items c.parts.inside.owners.items c.parts.inside.chunks c.in_ok-bands.bands.items c.in_ok-listed.field-0.listed.mesh ≡ c.in_ok-mesh.mesh
-    laid = rw (← c.deref.ensures.value) (sym (ok_same _ _ c.in_ok-mesh.ensures.value))
+    laid : with_tables_of c.in_ok-listed.field-0.listed.triangles.items c.parts.inside.owners.items c.parts.inside.chunks c.in_ok-bands.bands.items c.in_ok-listed.field-0.listed.mesh.mesh ≡ c.in_ok-mesh.mesh.mesh
+    laid = rw (← c.deref.ensures.value) (sym c.in_ok-mesh.ensures.value)
 
-    made : with_tables_of c.in_ok-listed.field-0.listed.triangles.items c.in_ok-listed.field-0.parts.owners c.in_ok-listed.field-0.parts.chunks c.in_ok-bands.bands.items c.in_ok-listed.field-0.listed.mesh ≡ c.in_ok-mesh.mesh
+    made : with_tables_of c.in_ok-listed.field-0.listed.triangles.items c.in_ok-listed.field-0.parts.owners c.in_ok-listed.field-0.parts.chunks c.in_ok-bands.bands.items c.in_ok-listed.field-0.listed.mesh.mesh ≡ c.in_ok-mesh.mesh.mesh
     made =
-        sym (ap (λ parts. with_tables_of c.in_ok-listed.field-0.listed.triangles.items parts.owners parts.chunks c.in_ok-bands.bands.items c.in_ok-listed.field-0.listed.mesh) c.parts.view_is)
+        sym (ap (λ parts. with_tables_of c.in_ok-listed.field-0.listed.triangles.items parts.owners parts.chunks c.in_ok-bands.bands.items c.in_ok-listed.field-0.listed.mesh.mesh) c.parts.view_is)
         ∙ laid

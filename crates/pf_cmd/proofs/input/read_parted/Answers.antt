@@ -16,7 +16,7 @@ pub returns-in_err-parts-clause-stop : goal.returns-in_err-parts-clause-stop
 unfolding parted_in
 returns-in_err-parts-clause-stop g c =
     let p = err_from_is_err_and c.from_residual-in_err-parts.result c.from_residual-in_err-parts.ensures.1 in
-    let read : Listed = record { base = c.in_ok-listed.listed.base; mesh = c.in_ok-listed.listed.mesh; triangles = c.in_ok-listed.listed.triangles.items } in
+    let read : Listed = record { base = c.in_ok-listed.listed.base; mesh = c.in_ok-listed.listed.mesh.mesh; triangles = c.in_ok-listed.listed.triangles.items } in
     let count : length read.triangles ≡ c.len.result = omega (arith, c.in_ok-listed.listed.triangles.ok) in
     rw (p.1, p.2)
     (explains-next _ _ _ read _ _ c.in_ok-listed.ensures.mesh
@@ -26,7 +26,7 @@ returns-in_err-parts-clause-stop g c =
 pub returns-clause-parted : goal.returns-clause-parted
 unfolding parted_in
 returns-clause-parted g c = λ tells.
-    let read : Listed = record { base = c.in_ok-listed.listed.base; mesh = c.in_ok-listed.listed.mesh; triangles = c.in_ok-listed.listed.triangles.items } in
+    let read : Listed = record { base = c.in_ok-listed.listed.base; mesh = c.in_ok-listed.listed.mesh.mesh; triangles = c.in_ok-listed.listed.triangles.items } in
     let count : length read.triangles ≡ c.len.result = omega (arith, c.in_ok-listed.listed.triangles.ok) in
     ap (λ r. r >>= (λ listed. parts_in (held (g.S.Shelf.told c.args.shelf.now)) (stems_of c.args.stems) (length listed.triangles) >>= (λ parts. Ok record { listed = listed; parts = parts }))) (c.in_ok-listed.ensures.mesh tells)
     ∙ ap (λ r. r >>= (λ parts. Ok record { listed = read; parts = parts }))

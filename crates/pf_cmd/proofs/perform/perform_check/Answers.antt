@@ -23,5 +23,5 @@ returns-clause-done g c = λ tells.
       gives = check_given (parted_of c.in_ok-listed.field-0);
       is_given = ap (λ r. r >>= (λ parted. Ok (check_given parted))) (c.in_ok-listed.ensures.parted tells);
       files = λ name. c.in_ok-listed.ensures.only_read.files.same name;
-      says = c.in_ok-report.ensures.text ∙ ap (λ parts. check_report parts.chunks c.in_ok-listed.field-0.listed.mesh) c.parts.view_is;
+      says = c.in_ok-report.ensures.text ∙ ap (λ parts. check_report parts.chunks c.in_ok-listed.field-0.listed.mesh.mesh) c.parts.view_is;
     }

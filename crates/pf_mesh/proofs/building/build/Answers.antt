@@ -40,4 +40,4 @@ returns-clause-ok c =
     built-ok points tris e.ok ∙ ap (λ m. Ok m) (sym same ∙ sym c.of_kept.ensures)
 
 pub returns-clause-listed : goal.returns-clause-listed
-returns-clause-listed c = built-listed c.args.points.now c.args.tris.now c.of_kept.result (returns-clause-ok c)
+returns-clause-listed c = built-listed c.args.points.now c.args.tris.now c.of_kept.result.mesh (returns-clause-ok c)

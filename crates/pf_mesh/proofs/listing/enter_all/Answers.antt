@@ -27,7 +27,7 @@ loop-left-preserved c =
     let cap' = c.loop-left.invariant.3 in (
       subst Q (sym c.enter_listed.ensures.entered) (rising-fit t c.loop-left.tris.items c.loop-left.invariant.0 (subst S (sym now) f.1)),
       omega (arith, within),
-      omega (arith, len, room, cap, some),
+      omega (arith, len, room, some),
       omega (arith, cap, cap'),
       c.enter_listed.ensures.entered ∙ (ap (insert_by tri_lt t) now ∙ ap (λ l. insert_all_by tri_lt l ts) (sym e)),
     )

@@ -7,7 +7,7 @@ abbrev pub invariant-loop-left : goal.invariant-loop-left
 invariant-loop-left l =
     IsRising tri_lt l.tris.items
     × (l.left ≤ length l.fn.new)
-    × (vec_len l.tris + l.left ≤ vec_capacity l.tris)
+    × (vec_len l.tris + l.left ≡ vec_len l.fn.tris + length l.fn.new)
     × (vec_capacity l.fn.tris ≤ vec_capacity l.tris)
     × (l.tris.items ≡ insert_all_by tri_lt (drop l.left l.fn.new) l.fn.tris.items)
 

@@ -3,10 +3,10 @@ use Rattle.pf_mesh.proofs.BuiltNames.{built-fresh, built-first}
 use Rattle.pf_mesh.proofs.tests.made.Goals as goal
 
 pub returns-clause-fresh : goal.returns-clause-fresh
-returns-clause-fresh c = built-fresh c.args.points.now c.args.tris.now c.in_ok-mesh.mesh c.in_ok-mesh.ensures.ok
+returns-clause-fresh c = built-fresh c.args.points.now c.args.tris.now c.in_ok-mesh.mesh.mesh c.in_ok-mesh.ensures.ok
 
 pub returns-clause-few : goal.returns-clause-few
-returns-clause-few c = let e = built-first c.args.points.now c.args.tris.now c.in_ok-mesh.mesh c.in_ok-mesh.ensures.ok in let l = c.requires.few_points in subst (λ k. k < 1048576) e l
+returns-clause-few c = let e = built-first c.args.points.now c.args.tris.now c.in_ok-mesh.mesh.mesh c.in_ok-mesh.ensures.ok in let l = c.requires.few_points in subst (λ k. k < 1048576) e l
 
 pub returns-clause-names : goal.returns-clause-names
-returns-clause-names c = sym (built-first c.args.points.now c.args.tris.now c.in_ok-mesh.mesh c.in_ok-mesh.ensures.ok)
+returns-clause-names c = sym (built-first c.args.points.now c.args.tris.now c.in_ok-mesh.mesh.mesh c.in_ok-mesh.ensures.ok)

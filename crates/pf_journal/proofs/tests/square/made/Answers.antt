@@ -3,7 +3,7 @@ use Rattle.pf_mesh.proofs.BuiltNames.{built-fresh, built-first}
 use Rattle.pf_journal.proofs.tests.square.made.Goals as goal
 
 pub returns-clause-fresh : goal.returns-clause-fresh
-returns-clause-fresh c = built-fresh c.args.points.now c.args.tris.now c.in_ok-mesh.mesh c.in_ok-mesh.ensures.ok
+returns-clause-fresh c = built-fresh c.args.points.now c.args.tris.now c.in_ok-mesh.mesh.mesh c.in_ok-mesh.ensures.ok
 
 pub returns-clause-names : goal.returns-clause-names
-returns-clause-names c = sym (built-first c.args.points.now c.args.tris.now c.in_ok-mesh.mesh c.in_ok-mesh.ensures.ok)
+returns-clause-names c = sym (built-first c.args.points.now c.args.tris.now c.in_ok-mesh.mesh.mesh c.in_ok-mesh.ensures.ok)

@@ -6,8 +6,8 @@ use Rattle.pf_model.proofs.ReplayKeeps.{applied_conforms, applied_area}
 use Rattle.pf_mesh.specs.Operations.{CanApply}
 use Rattle.pf_mesh.proofs.mesh.Mesh.apply.Goals as goal
 
-abbrev can : (c : goal.In-Ok) → CanApply c.args.self.now (c.first_new.result + c.args.e.now.ticket) c.args.e.now.op
-can c = record { chunk = c.args.e.now.chunk; ticket = c.args.e.now.ticket; fresh = c.requires.fresh; name = ap (λ (i : ℕ). i + c.args.e.now.ticket) (sym c.first_new.ensures.value); passes = sym c.first_fail.ensures ∙ c.in_default-first_fail.is }
+abbrev can : (c : goal.In-Ok) → CanApply c.args.self.now.mesh (c.first_new.result + c.args.e.now.ticket) c.args.e.now.op
+can c = record { chunk = c.args.e.now.chunk; ticket = c.args.e.now.ticket; fresh = c.requires.fresh; name = ap (λ (i : ℕ). i + c.args.e.now.ticket) (sym c.first_new.ensures.value); passes = sym c.plan.ensures.cond ∙ c.in_default-plan.is }
 
 pub returns-in-Ok-clause-applied : goal.returns-in-Ok-clause-applied
 returns-in-Ok-clause-applied c = c.in-Ok.ensures.ok (can c)
@@ -15,7 +15,7 @@ returns-in-Ok-clause-applied c = c.in-Ok.ensures.ok (can c)
 pub returns-in-Ok-clause-conforming : goal.returns-in-Ok-clause-conforming
 returns-in-Ok-clause-conforming c =
     let P : Undivided → Type 0 = λ m. IsConforming m in
-    subst P (sym (returns-in-Ok-clause-applied c)) (applied_conforms c.args.self.now c.args.e.now.chunk c.args.e.now.ticket c.args.e.now.op c.gone_node.ensures.conforming c.requires.fresh (can c).passes)
+    subst P (sym (returns-in-Ok-clause-applied c)) (applied_conforms c.args.self.now.mesh c.args.e.now.chunk c.args.e.now.ticket c.args.e.now.op c.gone_node.ensures.conforming c.requires.fresh (can c).passes)
 
 pub returns-in-Ok-clause-area : goal.returns-in-Ok-clause-area
-returns-in-Ok-clause-area c = ap area2_of (returns-in-Ok-clause-applied c) ∙ applied_area c.args.self.now c.args.e.now.chunk c.args.e.now.ticket c.args.e.now.op c.gone_node.ensures.conforming c.requires.fresh (can c).passes
+returns-in-Ok-clause-area c = ap area2_of (returns-in-Ok-clause-applied c) ∙ applied_area c.args.self.now.mesh c.args.e.now.chunk c.args.e.now.ticket c.args.e.now.op c.gone_node.ensures.conforming c.requires.fresh (can c).passes

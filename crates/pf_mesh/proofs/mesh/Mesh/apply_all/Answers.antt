@@ -6,6 +6,7 @@ use Rattle.pf_model.specs.Sums.{area2_of}
 use Rattle.pf_mesh.specs.Mesh.{mesh_of, IsKept}
 use Rattle.pf_mesh.specs.Run.{IsReached}
 use Rattle.pf_mesh.proofs.RunEnds.{IsEnd, count_of, ran, run-ended, ended-ok, ended-err, parts-ended, area-ended}
+use Rattle.pf_mesh.proofs.MeshLemmas.{same-mesh}
 use Rattle.pf_mesh.proofs.mesh.Mesh.apply_all.Goals as goal
 
 pub run-ran-requires-clause-reached : goal.run-ran-requires-clause-reached
@@ -18,8 +19,8 @@ run-ran-requires-clause-reached c =
       reached = record {
         kept = c.self.invariant;
         bands_are = sym c.deref.ensures.value;
-        first = ap (λ (x : Undivided). x.first_new) c.self.view_is ∙ sym c.first_new-first_new.ensures.value;
-        fresh = subst F (sym c.self.view_is) c.requires.fresh;
+        first = ap (λ (x : Undivided). x.first_new) (same-mesh c.self.view_is) ∙ sym c.first_new-first_new.ensures.value;
+        fresh = subst F (sym (same-mesh c.self.view_is)) c.requires.fresh;
         sites_fit = (let cap = c.clear.ensures.capacity in let ok = i.sites.ok in let small = i.sites.small in omega (arith, cap, ok, small));
         tris_fit = (let cap = c.clear-2.ensures.capacity in let ok = i.tris.ok in let small = i.tris.small in omega (arith, cap, ok, small));
       };
@@ -39,8 +40,8 @@ relist_sites-requires c =
     let start : I m = record {
       kept = c.self.invariant;
       bands_are = sym c.deref.ensures.value;
-      first = ap (λ (x : Undivided). x.first_new) c.self.view_is ∙ sym c.first_new-first_new.ensures.value;
-      fresh = subst F (sym c.self.view_is) c.requires.fresh;
+      first = ap (λ (x : Undivided). x.first_new) (same-mesh c.self.view_is) ∙ sym c.first_new-first_new.ensures.value;
+      fresh = subst F (sym (same-mesh c.self.view_is)) c.requires.fresh;
       sites_fit = (let cap = c.clear.ensures.capacity in let ok = i.sites.ok in let small = i.sites.small in omega (arith, cap, ok, small));
       tris_fit = (let cap = c.clear-2.ensures.capacity in let ok = i.tris.ok in let small = i.tris.small in omega (arith, cap, ok, small));
     } in
@@ -64,8 +65,8 @@ relist_tris-requires c =
     let start : I m = record {
       kept = c.self.invariant;
       bands_are = sym c.deref.ensures.value;
-      first = ap (λ (x : Undivided). x.first_new) c.self.view_is ∙ sym c.first_new-first_new.ensures.value;
-      fresh = subst F (sym c.self.view_is) c.requires.fresh;
+      first = ap (λ (x : Undivided). x.first_new) (same-mesh c.self.view_is) ∙ sym c.first_new-first_new.ensures.value;
+      fresh = subst F (sym (same-mesh c.self.view_is)) c.requires.fresh;
       sites_fit = (let cap = c.clear.ensures.capacity in let ok = i.sites.ok in let small = i.sites.small in omega (arith, cap, ok, small));
       tris_fit = (let cap = c.clear-2.ensures.capacity in let ok = i.tris.ok in let small = i.tris.small in omega (arith, cap, ok, small));
     } in
@@ -88,8 +89,8 @@ invariant_of-self c =
     let start : I m = record {
       kept = c.self.invariant;
       bands_are = sym c.deref.ensures.value;
-      first = ap (λ (x : Undivided). x.first_new) c.self.view_is ∙ sym c.first_new-first_new.ensures.value;
-      fresh = subst F (sym c.self.view_is) c.requires.fresh;
+      first = ap (λ (x : Undivided). x.first_new) (same-mesh c.self.view_is) ∙ sym c.first_new-first_new.ensures.value;
+      fresh = subst F (sym (same-mesh c.self.view_is)) c.requires.fresh;
       sites_fit = (let cap = c.clear.ensures.capacity in let ok = i.sites.ok in let small = i.sites.small in omega (arith, cap, ok, small));
       tris_fit = (let cap = c.clear-2.ensures.capacity in let ok = i.tris.ok in let small = i.tris.small in omega (arith, cap, ok, small));
     } in
@@ -97,7 +98,7 @@ invariant_of-self c =
     let n = ran m es r in
     let at = end.reached in
     let below : (k : ℕ) → IsLive n k → k < first_new + length es = λ k l. (let a = at.fresh k l in let b = at.first in let w = end.within in omega (arith, a, b, w)) in
-    let same : mesh_of i.first_new c.relist_sites.new.sites.items c.relist_tris.new.tris.items i.bands.items i.chunks ≡ n = parts-ended m (take (count_of es r) es) i.first_new c.relist_sites.new.sites.items c.relist_tris.new.tris.items i.bands.items (at.first ∙ (c.first_new-first_new.ensures.value ∙ ap (λ (x : Undivided). x.first_new) (sym c.self.view_is))) (c.relist_sites.ensures n at.kept below) (c.relist_tris.ensures n at.kept) (at.bands_are ∙ c.deref.ensures.value) in
+    let same : mesh_of i.first_new c.relist_sites.new.sites.items c.relist_tris.new.tris.items i.bands.items i.chunks ≡ n = parts-ended m (take (count_of es r) es) i.first_new c.relist_sites.new.sites.items c.relist_tris.new.tris.items i.bands.items (at.first ∙ (c.first_new-first_new.ensures.value ∙ ap (λ (x : Undivided). x.first_new) (sym (same-mesh c.self.view_is)))) (c.relist_sites.ensures n at.kept below) (c.relist_tris.ensures n at.kept) (at.bands_are ∙ c.deref.ensures.value) in
     let P : Undivided → Type 0 = λ x. IsKept new.sides new.nodes.items x in
     subst P (sym same) at.kept
 
@@ -115,8 +116,8 @@ returns-clause-replayed c =
     let start : I m = record {
       kept = c.self.invariant;
       bands_are = sym c.deref.ensures.value;
-      first = ap (λ (x : Undivided). x.first_new) c.self.view_is ∙ sym c.first_new-first_new.ensures.value;
-      fresh = subst F (sym c.self.view_is) c.requires.fresh;
+      first = ap (λ (x : Undivided). x.first_new) (same-mesh c.self.view_is) ∙ sym c.first_new-first_new.ensures.value;
+      fresh = subst F (sym (same-mesh c.self.view_is)) c.requires.fresh;
       sites_fit = (let cap = c.clear.ensures.capacity in let ok = i.sites.ok in let small = i.sites.small in omega (arith, cap, ok, small));
       tris_fit = (let cap = c.clear-2.ensures.capacity in let ok = i.tris.ok in let small = i.tris.small in omega (arith, cap, ok, small));
     } in
@@ -124,9 +125,9 @@ returns-clause-replayed c =
     let n = ran m es r in
     let at = end.reached in
     let below : (k : ℕ) → IsLive n k → k < first_new + length es = λ k l. (let a = at.fresh k l in let b = at.first in let w = end.within in omega (arith, a, b, w)) in
-    let same : mesh_of i.first_new c.relist_sites.new.sites.items c.relist_tris.new.tris.items i.bands.items i.chunks ≡ n = parts-ended m (take (count_of es r) es) i.first_new c.relist_sites.new.sites.items c.relist_tris.new.tris.items i.bands.items (at.first ∙ (c.first_new-first_new.ensures.value ∙ ap (λ (x : Undivided). x.first_new) (sym c.self.view_is))) (c.relist_sites.ensures n at.kept below) (c.relist_tris.ensures n at.kept) (at.bands_are ∙ c.deref.ensures.value) in
+    let same : mesh_of i.first_new c.relist_sites.new.sites.items c.relist_tris.new.tris.items i.bands.items i.chunks ≡ n = parts-ended m (take (count_of es r) es) i.first_new c.relist_sites.new.sites.items c.relist_tris.new.tris.items i.bands.items (at.first ∙ (c.first_new-first_new.ensures.value ∙ ap (λ (x : Undivided). x.first_new) (sym (same-mesh c.self.view_is)))) (c.relist_sites.ensures n at.kept below) (c.relist_tris.ensures n at.kept) (at.bands_are ∙ c.deref.ensures.value) in
     let x = mesh_of i.first_new c.relist_sites.new.sites.items c.relist_tris.new.tris.items i.bands.items i.chunks in
-    ended-ok x c.args.self.now es r (same ∙ ap (λ (k : Undivided). ran k es r) c.self.view_is)
+    ended-ok x c.args.self.now.mesh es r (same ∙ ap (λ (k : Undivided). ran k es r) (same-mesh c.self.view_is))
 
 pub returns-clause-before : goal.returns-clause-before
 returns-clause-before c =
@@ -142,8 +143,8 @@ returns-clause-before c =
     let start : I m = record {
       kept = c.self.invariant;
       bands_are = sym c.deref.ensures.value;
-      first = ap (λ (x : Undivided). x.first_new) c.self.view_is ∙ sym c.first_new-first_new.ensures.value;
-      fresh = subst F (sym c.self.view_is) c.requires.fresh;
+      first = ap (λ (x : Undivided). x.first_new) (same-mesh c.self.view_is) ∙ sym c.first_new-first_new.ensures.value;
+      fresh = subst F (sym (same-mesh c.self.view_is)) c.requires.fresh;
       sites_fit = (let cap = c.clear.ensures.capacity in let ok = i.sites.ok in let small = i.sites.small in omega (arith, cap, ok, small));
       tris_fit = (let cap = c.clear-2.ensures.capacity in let ok = i.tris.ok in let small = i.tris.small in omega (arith, cap, ok, small));
     } in
@@ -151,9 +152,9 @@ returns-clause-before c =
     let n = ran m es r in
     let at = end.reached in
     let below : (k : ℕ) → IsLive n k → k < first_new + length es = λ k l. (let a = at.fresh k l in let b = at.first in let w = end.within in omega (arith, a, b, w)) in
-    let same : mesh_of i.first_new c.relist_sites.new.sites.items c.relist_tris.new.tris.items i.bands.items i.chunks ≡ n = parts-ended m (take (count_of es r) es) i.first_new c.relist_sites.new.sites.items c.relist_tris.new.tris.items i.bands.items (at.first ∙ (c.first_new-first_new.ensures.value ∙ ap (λ (x : Undivided). x.first_new) (sym c.self.view_is))) (c.relist_sites.ensures n at.kept below) (c.relist_tris.ensures n at.kept) (at.bands_are ∙ c.deref.ensures.value) in
+    let same : mesh_of i.first_new c.relist_sites.new.sites.items c.relist_tris.new.tris.items i.bands.items i.chunks ≡ n = parts-ended m (take (count_of es r) es) i.first_new c.relist_sites.new.sites.items c.relist_tris.new.tris.items i.bands.items (at.first ∙ (c.first_new-first_new.ensures.value ∙ ap (λ (x : Undivided). x.first_new) (sym (same-mesh c.self.view_is)))) (c.relist_sites.ensures n at.kept below) (c.relist_tris.ensures n at.kept) (at.bands_are ∙ c.deref.ensures.value) in
     let x = mesh_of i.first_new c.relist_sites.new.sites.items c.relist_tris.new.tris.items i.bands.items i.chunks in
-    ended-err x c.args.self.now es r (same ∙ ap (λ (k : Undivided). ran k es r) c.self.view_is)
+    ended-err x c.args.self.now.mesh es r (same ∙ ap (λ (k : Undivided). ran k es r) (same-mesh c.self.view_is))
 
 pub returns-clause-conforming : goal.returns-clause-conforming
 returns-clause-conforming c =
@@ -169,8 +170,8 @@ returns-clause-conforming c =
     let start : I m = record {
       kept = c.self.invariant;
       bands_are = sym c.deref.ensures.value;
-      first = ap (λ (x : Undivided). x.first_new) c.self.view_is ∙ sym c.first_new-first_new.ensures.value;
-      fresh = subst F (sym c.self.view_is) c.requires.fresh;
+      first = ap (λ (x : Undivided). x.first_new) (same-mesh c.self.view_is) ∙ sym c.first_new-first_new.ensures.value;
+      fresh = subst F (sym (same-mesh c.self.view_is)) c.requires.fresh;
       sites_fit = (let cap = c.clear.ensures.capacity in let ok = i.sites.ok in let small = i.sites.small in omega (arith, cap, ok, small));
       tris_fit = (let cap = c.clear-2.ensures.capacity in let ok = i.tris.ok in let small = i.tris.small in omega (arith, cap, ok, small));
     } in
@@ -178,7 +179,7 @@ returns-clause-conforming c =
     let n = ran m es r in
     let at = end.reached in
     let below : (k : ℕ) → IsLive n k → k < first_new + length es = λ k l. (let a = at.fresh k l in let b = at.first in let w = end.within in omega (arith, a, b, w)) in
-    let same : mesh_of i.first_new c.relist_sites.new.sites.items c.relist_tris.new.tris.items i.bands.items i.chunks ≡ n = parts-ended m (take (count_of es r) es) i.first_new c.relist_sites.new.sites.items c.relist_tris.new.tris.items i.bands.items (at.first ∙ (c.first_new-first_new.ensures.value ∙ ap (λ (x : Undivided). x.first_new) (sym c.self.view_is))) (c.relist_sites.ensures n at.kept below) (c.relist_tris.ensures n at.kept) (at.bands_are ∙ c.deref.ensures.value) in
+    let same : mesh_of i.first_new c.relist_sites.new.sites.items c.relist_tris.new.tris.items i.bands.items i.chunks ≡ n = parts-ended m (take (count_of es r) es) i.first_new c.relist_sites.new.sites.items c.relist_tris.new.tris.items i.bands.items (at.first ∙ (c.first_new-first_new.ensures.value ∙ ap (λ (x : Undivided). x.first_new) (sym (same-mesh c.self.view_is)))) (c.relist_sites.ensures n at.kept below) (c.relist_tris.ensures n at.kept) (at.bands_are ∙ c.deref.ensures.value) in
     let P : Undivided → Type 0 = λ x. IsConforming x in
     subst P (sym same) at.kept.conforming
 
@@ -196,8 +197,8 @@ returns-clause-area c =
     let start : I m = record {
       kept = c.self.invariant;
       bands_are = sym c.deref.ensures.value;
-      first = ap (λ (x : Undivided). x.first_new) c.self.view_is ∙ sym c.first_new-first_new.ensures.value;
-      fresh = subst F (sym c.self.view_is) c.requires.fresh;
+      first = ap (λ (x : Undivided). x.first_new) (same-mesh c.self.view_is) ∙ sym c.first_new-first_new.ensures.value;
+      fresh = subst F (sym (same-mesh c.self.view_is)) c.requires.fresh;
       sites_fit = (let cap = c.clear.ensures.capacity in let ok = i.sites.ok in let small = i.sites.small in omega (arith, cap, ok, small));
       tris_fit = (let cap = c.clear-2.ensures.capacity in let ok = i.tris.ok in let small = i.tris.small in omega (arith, cap, ok, small));
     } in
@@ -205,5 +206,5 @@ returns-clause-area c =
     let n = ran m es r in
     let at = end.reached in
     let below : (k : ℕ) → IsLive n k → k < first_new + length es = λ k l. (let a = at.fresh k l in let b = at.first in let w = end.within in omega (arith, a, b, w)) in
-    let same : mesh_of i.first_new c.relist_sites.new.sites.items c.relist_tris.new.tris.items i.bands.items i.chunks ≡ n = parts-ended m (take (count_of es r) es) i.first_new c.relist_sites.new.sites.items c.relist_tris.new.tris.items i.bands.items (at.first ∙ (c.first_new-first_new.ensures.value ∙ ap (λ (x : Undivided). x.first_new) (sym c.self.view_is))) (c.relist_sites.ensures n at.kept below) (c.relist_tris.ensures n at.kept) (at.bands_are ∙ c.deref.ensures.value) in
-    ap area2_of same ∙ (area-ended m es (count_of es r) c.self.invariant.conforming start.fresh c.requires.tickets end.passed ∙ ap area2_of c.self.view_is)
+    let same : mesh_of i.first_new c.relist_sites.new.sites.items c.relist_tris.new.tris.items i.bands.items i.chunks ≡ n = parts-ended m (take (count_of es r) es) i.first_new c.relist_sites.new.sites.items c.relist_tris.new.tris.items i.bands.items (at.first ∙ (c.first_new-first_new.ensures.value ∙ ap (λ (x : Undivided). x.first_new) (sym (same-mesh c.self.view_is)))) (c.relist_sites.ensures n at.kept below) (c.relist_tris.ensures n at.kept) (at.bands_are ∙ c.deref.ensures.value) in
+    ap area2_of same ∙ (area-ended m es (count_of es r) c.self.invariant.conforming start.fresh c.requires.tickets end.passed ∙ ap area2_of (same-mesh c.self.view_is))

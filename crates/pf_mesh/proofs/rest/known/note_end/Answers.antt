@@ -1,5 +1,8 @@
-use Rattle.pf_mesh.proofs.WalkEnds.{ends-noted}
+use Rattle.std.proofs.Common.{◌<◌, length, arith}
+use Rattle.pf_mesh.proofs.EdgeSpots.{ends-noted}
 use Rattle.pf_mesh.proofs.rest.known.note_end.Goals as goal
 
-pub returns-in-Ok : goal.returns-in-Ok
-returns-in-Ok c = λ m are is. ends-noted m c.args.ends.now c.insert.new.self c.args.e c.args.end c.in-Ok.ensures.updates are is
+pub returns : goal.returns
+returns c = λ m edges t are lead is.
+    let within : c.args.place < length c.args.ends.now.items = omega (arith, c.if-place-len.false, c.len.ensures, c.args.ends.now.ok) in
+    ends-noted m edges t c.args.ends.now.items c.args.place c.args.end within are lead is

@@ -1,16 +1,18 @@
 use Rattle.std.proofs.Common.{◌≡◌}
 use Rattle.pf_model.specs.Mesh.{Undivided}
 use Rattle.pf_model.specs.Wishes.{walked, terminal_of}
-use Rattle.pf_mesh.specs.Lengths.{span_value}
-use Rattle.pf_mesh.specs.Rest.{IsFinite}
+use Rattle.pf_mesh.specs.Rest.{sided_edge, AreAtEnds, IsFinite, IsSpot, LeadTo}
 use Rattle.pf_mesh.specs.Table.{Shows}
 use Rattle.pf_mesh.proofs.table.EdgeTable.end_from.Given as goal
 
--- what is left of the walk ends where the whole does, and the walk from here too
+-- what is left of the walk ends where the whole does, and the walks from here and from all places on the way too
 abbrev pub invariant-walk : goal.invariant-walk
 invariant-walk l =
-    (m : Undivided) → Shows l.self.sides l.self.nodes.items m → IsFinite m (span_value l.fn.e)
-    → (walked l.most m (span_value l.at) ≡ terminal_of m (span_value l.fn.e)) × (terminal_of m (span_value l.at) ≡ terminal_of m (span_value l.fn.e))
+    IsSpot l.self.sides l.edges.list.items (sided_edge l.at.edge) l.at
+    × ((m : Undivided) → Shows l.self.sides l.self.nodes.items m → AreAtEnds m l.edges.list.items l.ends → IsFinite m (sided_edge l.fn.e.edge)
+    → (walked l.most m (sided_edge l.at.edge) ≡ terminal_of m (sided_edge l.fn.e.edge))
+    × (terminal_of m (sided_edge l.at.edge) ≡ terminal_of m (sided_edge l.fn.e.edge))
+    × LeadTo m l.edges.list.items l.way.items (terminal_of m (sided_edge l.fn.e.edge)))
 
 abbrev pub decreases-walk : goal.decreases-walk
 decreases-walk l = l.most

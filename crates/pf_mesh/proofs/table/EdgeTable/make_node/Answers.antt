@@ -11,17 +11,11 @@ use Rattle.pf_mesh.specs.Operations.{HasPlaces}
 use Rattle.pf_mesh.proofs.OperationLemmas.{new_not_live, keeps-stood, places-kept, places-contracted, places-moved, places-pushed}
 use Rattle.pf_mesh.proofs.table.EdgeTable.make_node.Goals as goal
 
-pub returns-in_err-stand_at-clause-keeps : goal.returns-in_err-stand_at-clause-keeps
-returns-in_err-stand_at-clause-keeps c = λ m k can.
-    let P : Sides → Type 0 = λ s. IsKept s c.stand_at.new.self.nodes.items m in
-    subst P (sym c.stand_at.ensures.sides)
-    (keeps-stood c.args.self.now.sides c.args.self.now.nodes.items c.stand_at.new.self.nodes.items m c.args.n k (new_not_live m c.args.n c.args.op can) c.stand_at.ensures.counts c.stand_at.ensures.others (c.stand_at.ensures.in_range c.requires))
-
 pub returns-clause-keeps : goal.returns-clause-keeps
 returns-clause-keeps c = λ m k can.
     let P : Sides → Type 0 = λ s. IsKept s c.stand_at.new.self.nodes.items m in
     subst P (sym c.stand_at.ensures.sides)
-    (keeps-stood c.args.self.now.sides c.args.self.now.nodes.items c.stand_at.new.self.nodes.items m c.args.n k (new_not_live m c.args.n c.args.op can) c.stand_at.ensures.counts c.stand_at.ensures.others (c.stand_at.ensures.in_range c.requires))
+    (keeps-stood c.args.self.now.sides c.args.self.now.nodes.items c.stand_at.new.self.nodes.items m c.args.n k (new_not_live m c.args.n c.args.op can) c.stand_at.ensures.counts c.stand_at.ensures.others (c.stand_at.ensures.in_range c.requires.in_range))
 
 pub returns-in-Contract-clause-places : goal.returns-in-Contract-clause-places
 returns-in-Contract-clause-places c = λ m k can.
@@ -43,4 +37,4 @@ returns-clause-places c = λ m k can.
     ∙ (ap (λ (i : ℕ). m.sites ++ new_site i (middle_of (place_of m (min a b)) (place_of m (max a b)))) can.name ∙ ap (λ (o : Option Point). m.sites ++ new_site n o) mid)
     in
     places-pushed nodes m (op_applied m can.ticket c.args.op) n c.in-Some.at same
-    (places-moved c.args.self.now.nodes.items nodes m n before none c.stand_at.ensures.names c.stand_at.ensures.others) c.in_ok-stand_at.ensures.named c.in_ok-stand_at.ensures.stands
+    (places-moved c.args.self.now.nodes.items nodes m n before none c.stand_at.ensures.names c.stand_at.ensures.others) c.stand_at.ensures.named c.stand_at.ensures.stands

@@ -10,4 +10,4 @@ abbrev pub decreases-turns : goal.decreases-turns
 decreases-turns l = l.most - length l.found.items
 
 abbrev pub invariant-turns : goal.invariant-turns
-invariant-turns l = (m : Undivided) → IsConforming m → Shows l.self.sides l.self.nodes.items m → TurnsRight (spokes_of m l.u) l.fn.from.items l.v l.v → TurnsRight (spokes_of m l.u) l.found.items l.v l.left
+invariant-turns l = (m : Undivided) → IsConforming m → Shows l.self.sides l.self.nodes.items m → TurnsRight (spokes_of m l.u) l.fn.found.items l.v l.v → TurnsRight (spokes_of m l.u) l.found.items l.v l.left

@@ -10,7 +10,7 @@ use Rattle.pf_mesh.proofs.tests.run.one_by_one.Goals as goal
 pub apply-requires-clause-fresh : goal.apply-requires-clause-fresh
 apply-requires-clause-fresh c =
     let t = tickets-at c.args.entries.now c.loop-entry.entry-index record { ticket = 0; chunk = 0; op = Flip 0 0 } c.loop-entry-test.true c.loop-entry.invariant.2 in
-    subst (λ k. IsFresh c.loop-entry.mesh k) (sym t.0) c.loop-entry.invariant.1
+    subst (λ k. IsFresh c.loop-entry.mesh.mesh k) (sym t.0) c.loop-entry.invariant.1
 
 pub apply-requires-clause-named : goal.apply-requires-clause-named
 apply-requires-clause-named c =
@@ -25,7 +25,7 @@ pub loop-entry-preserved : goal.loop-entry-preserved
 loop-entry-preserved c =
     let i = c.loop-entry.entry-index in
     let e : Entry = get_or c.args.entries.now i record { ticket = 0; chunk = 0; op = Flip 0 0 } in
-    let m = c.loop-entry.mesh in
+    let m = c.loop-entry.mesh.mesh in
     let inv = c.loop-entry.invariant in
     let t = tickets-at c.args.entries.now i record { ticket = 0; chunk = 0; op = Flip 0 0 } c.loop-entry-test.true inv.2 in
     let ticket = t.0 in

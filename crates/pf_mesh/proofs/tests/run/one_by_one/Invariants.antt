@@ -5,6 +5,6 @@ use Rattle.pf_mesh.proofs.tests.run.one_by_one.Given as goal
 
 abbrev pub invariant-loop-entry : goal.invariant-loop-entry
 invariant-loop-entry l =
-    (l.mesh.first_new ≡ l.fn.mesh.first_new)
-    × IsFresh l.mesh l.entry-index
+    (l.mesh.mesh.first_new ≡ l.fn.mesh.mesh.first_new)
+    × IsFresh l.mesh.mesh l.entry-index
     × HasTicketsFrom l.entry-index (drop l.entry-index l.entries)

@@ -1,0 +1,10 @@
+use Rattle.pf_mesh.specs.Table.{side_at}
+use Rattle.pf_mesh.proofs.TableSteps.{struck-three}
+use Rattle.pf_mesh.proofs.table.strike_edges.Goals as goal
+
+pub returns-clause-sides : goal.returns-clause-sides
+returns-clause-sides c = λ p q.
+    let s1 = c.strike.ensures.sides p q in
+    let s2 = c.strike-2.ensures.sides p q in
+    let s3 = c.strike-3.ensures.sides p q in
+    rw (s3, s2, s1) (struck-three c.args.t c.args.new.now p q (side_at c.args.sides.now p q))
