@@ -4,7 +4,9 @@
 # The first has the whole run with an empty journal, which reads, builds and writes, and beside it two runs that stop on the
 # way: one whose `.ele` file has a line too many, which is found once all is read, and one without a `.part` file, which is
 # missed once the mesh is built. The second has journals of OPERATIONS mixed operations (1000000 if unset, or as many as names
-# are left): bisections of diagonals, contractions of the new nodes, and flips.
+# are left): bisections of diagonals, contractions of the new nodes, and flips. Beside it stands a run with the first of them
+# alone, which lists the nodes and triangles anew as every run with an operation does; the time of an operation is what the
+# others add to that.
 #
 # Each time is the best of RUNS runs (5 if unset), of the whole process. Where YARDSTICK names a program that takes the same
 # words and files without the command's name, its time stands beside in the same row.
@@ -38,6 +40,7 @@ make_grid() {
             print "0\n0" > "g.part"
         }
         print "parfum journal 1\nend 0" > "empty.journal"
+        print "parfum journal 1\n0 0 bisect", 0, n + 2 "\nend 1" > "one.journal"
         print "parfum journal 1" > "mixed.journal"
         if (most > 1048576 - nodes) most = 1048576 - nodes
         for (round = 0; t + 3 <= most; round++)
@@ -89,11 +92,13 @@ for side in 22 70 223 707; do
     echo "| $(date +%F) | $(nproc) | $runs | $((2 * side * side)) | $reads s | $builds s | $whole s | $peak | $(other empty) |"
 done
 echo
-echo "| Date | Cores | Runs | Triangles | Operations | Empty | Mixed | Peak KB | Yardstick |"
-echo "|---|---|---|---|---|---|---|---|---|"
+echo "| Date | Cores | Runs | Triangles | Operations | Empty | One | Mixed | An operation | Peak KB | Yardstick |"
+echo "|---|---|---|---|---|---|---|---|---|---|---|"
 for side in 223 707 1000; do
     make_grid "$side"
     read -r empty _ < <(best_done "$program" empty)
+    read -r one _ < <(best_done "$program" one)
     read -r mixed peak < <(best_done "$program" mixed)
-    echo "| $(date +%F) | $(nproc) | $runs | $((2 * side * side)) | $(cat count) | $empty s | $mixed s | $peak | $(other mixed) |"
+    each=$(awk -v mixed="$mixed" -v one="$one" -v count="$(cat count)" 'BEGIN { printf "%.2f", 1e6 * (mixed - one) / (count - 1) }')
+    echo "| $(date +%F) | $(nproc) | $runs | $((2 * side * side)) | $(cat count) | $empty s | $one s | $mixed s | $each µs | $peak | $(other mixed) |"
 done
