@@ -1,12 +1,13 @@
 #!/usr/bin/env bash
-# Takes the time of `parfum replay` on slanted grids of about 10^3 to 2 * 10^6 triangles, and prints two tables in Markdown.
+# Takes the time of `parfum replay` on slanted grids of about 10^3 to 2 * 10^6 triangles, and prints three tables in Markdown.
 #
 # The first has the whole run with an empty journal, which reads, builds and writes, and beside it two runs that stop on the
 # way: one whose `.ele` file has a line too many, which is found once all is read, and one without a `.part` file, which is
 # missed once the mesh is built. The second has journals of OPERATIONS mixed operations (1000000 if unset, or as many as names
 # are left): bisections of diagonals, contractions of the new nodes, and flips. Beside it stands a run with the first of them
 # alone, which lists the nodes and triangles anew as every run with an operation does; the time of an operation is what the
-# others add to that.
+# others add to that. The third has each kind of operation apart, over all diagonals of a grid: flips, bisections, and the
+# contractions of the new nodes after them; beside them stands what listing anew takes, once in a run.
 #
 # Each time is the best of RUNS runs (5 if unset), of the whole process. Where YARDSTICK names a program that takes the same
 # words and files without the command's name, its time stands beside in the same row.
@@ -54,6 +55,22 @@ make_grid() {
             }
         print "end", t > "mixed.journal"
         print t > "count"
+        each = most < 2 * n * n ? int(most / 2) : n * n
+        print "parfum journal 1" > "flips.journal"
+        print "parfum journal 1" > "halves.journal"
+        print "parfum journal 1" > "back.journal"
+        for (t = 0; t < each; t++) {
+            a = int(t / n) * (n + 1) + t % n
+            print t, 0, "flip", a, a + n + 2 > "flips.journal"
+            print t, 0, "bisect", a, a + n + 2 > "halves.journal"
+            print t, 0, "bisect", a, a + n + 2 > "back.journal"
+        }
+        for (t = 0; t < each; t++)
+            print each + t, 0, "contract", nodes + t, int(t / n) * (n + 1) + t % n > "back.journal"
+        print "end", each > "flips.journal"
+        print "end", each > "halves.journal"
+        print "end", 2 * each > "back.journal"
+        print each > "each"
     }'
     ln -s g.node long.node
     { cat g.ele; echo more; } >long.ele
@@ -69,7 +86,18 @@ best() {
     done | sort -n | head -n 1
 }
 
-# The same for a run that is to be done.
+# The best time in microseconds of a run that is to be done, by the shell's clock.
+best_microseconds() {
+    "$program" replay g "$1" >said 2>/dev/null || { cat said >&2; exit 1; }
+    for ((run = 0; run < runs; run++)); do
+        local begun=$EPOCHREALTIME
+        "$program" replay g "$1" >said
+        local ended=$EPOCHREALTIME
+        echo $((${ended/./} - ${begun/./}))
+    done | sort -n | head -n 1
+}
+
+# As `best`, for a run that is to be done.
 best_done() {
     "$1" replay g "$2" >said 2>/dev/null || { cat said >&2; exit 1; }
     best "$1" g "$2"
@@ -101,4 +129,20 @@ for side in 223 707 1000; do
     read -r mixed peak < <(best_done "$program" mixed)
     each=$(awk -v mixed="$mixed" -v one="$one" -v count="$(cat count)" 'BEGIN { printf "%.2f", 1e6 * (mixed - one) / (count - 1) }')
     echo "| $(date +%F) | $(nproc) | $runs | $((2 * side * side)) | $(cat count) | $empty s | $one s | $mixed s | $each µs | $peak | $(other mixed) |"
+done
+echo
+echo "| Date | Cores | Runs | Triangles | Operations of a kind | Listing | Flip | Bisection | Contraction |"
+echo "|---|---|---|---|---|---|---|---|---|"
+for side in 22 70 223 707; do
+    make_grid "$side"
+    empty=$(best_microseconds empty)
+    one=$(best_microseconds one)
+    flips=$(best_microseconds flips)
+    halves=$(best_microseconds halves)
+    back=$(best_microseconds back)
+    awk -v date="$(date +%F)" -v cores="$(nproc)" -v runs="$runs" -v triangles="$((2 * side * side))" -v each="$(cat each)" \
+        -v empty="$empty" -v one="$one" -v flips="$flips" -v halves="$halves" -v back="$back" 'BEGIN {
+        printf "| %s | %d | %d | %d | %d | %.1f ms | %.2f µs | %.2f µs | %.2f µs |\n", date, cores, runs, triangles, each,
+            (one - empty) / 1000, (flips - one) / (each - 1), (halves - one) / (each - 1), (back - halves) / each
+    }'
 done
