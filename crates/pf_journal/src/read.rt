@@ -17,6 +17,7 @@ use std::alloc::Global;
 /// the line `end count`. The tickets count up from 0. An `op` is `flip`, `bisect` or `contract`. The
 /// names of a flip or a bisection are turned round where the lower one stands second; those of a
 /// contraction stay as they are.
+#[inline(never)]
 pub fn read_journal(alloc: Global, bytes: &[u8]) -> Result<Vec<Entry>, JourErr>
     requires { length bytes.now ≤ 268435456 }
     ensures value { IfOk result (λ entries. journal_of bytes.now ≡ Ok entries.items) }
@@ -89,18 +90,24 @@ struct EntryWords<'a> {
 }
 
 // The entry of a line whose first word is given, below so many others.
+//
+// Out of line, as the reader is, so that each has the registers to itself.
 #[tactic(auto, unfolding(crate::specs::Journal::entry_on))]
+#[inline(never)]
 fn entry(ticket: Token<'_>, mut words: Words<'_>, due: u32) -> Result<Entry, JourErr>
     ensures value { result ≡ entry_on due ticket.entry.line (word_of ticket.entry ∷ words.entry.words) }
     ensures ticket { IfOk result (λ entry. entry.ticket ≡ due) }
     ensures normal { IfOk result (λ entry. IsNormal entry.op) }
 {
     let line = ticket.line;
-    let short = JourErr::Short { line };
-    let chunk = words.next().ok_or(short)?;
-    let kind = words.next().ok_or(short)?;
-    let a = words.next().ok_or(short)?;
-    let b = words.next().ok_or(short)?;
+    let (Some(chunk), Some(kind), Some(a), Some(b)) = (
+        words.next(),
+        words.next(),
+        words.next(),
+        words.next(),
+    ) else {
+        return Err(JourErr::Short { line });
+    };
     let entry = EntryWords {
         ticket,
         chunk,

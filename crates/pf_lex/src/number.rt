@@ -25,9 +25,29 @@ const LIMIT: u64 = 1 << 62;
 // A digit may be put behind a value below this one.
 const ROOM: u64 = 1 << 60;
 
+// A number of so many digits is far below the greatest `u64`.
+const SHORT_LEN: usize = 18;
+
+// How many digits stand in front of a short word, and the number that they write.
+fn short_digits(word: &[u8]) -> (usize, u64)
+    requires { length word.now ≤ 18 }
+    ensures in_range { result.0 ≤ length word.now }
+    ensures run { result.0 ≡ prefix_len is_ascii_digit word.now }
+    ensures value { natural_value (take result.0 word.now) ≡ result.1 }
+{
+    let mut value: u64 = 0;
+    for (n, byte) in word.iter().enumerate() {
+        if !byte.is_ascii_digit() {
+            return (n, value);
+        }
+        value = value * 10 + u64::from(*byte - b'0');
+    }
+    (word.len(), value)
+}
+
 // How many digits stand in front, and the number that they write. Where that is above `LIMIT`, so is
 // the value that is given for it.
-fn leading_digits(word: &[u8]) -> (usize, u64)
+fn long_digits(word: &[u8]) -> (usize, u64)
     ensures in_range { result.0 ≤ length word.now }
     ensures run { result.0 ≡ prefix_len is_ascii_digit word.now }
     ensures value { result.1 ≤ number_limit → natural_value (take result.0 word.now) ≡ result.1 }
@@ -45,6 +65,20 @@ fn leading_digits(word: &[u8]) -> (usize, u64)
         };
     }
     (word.len(), value)
+}
+
+// What `long_digits` gives, by the shorter way where the word is short.
+fn leading_digits(word: &[u8]) -> (usize, u64)
+    ensures in_range { result.0 ≤ length word.now }
+    ensures run { result.0 ≡ prefix_len is_ascii_digit word.now }
+    ensures value { result.1 ≤ number_limit → natural_value (take result.0 word.now) ≡ result.1 }
+    ensures above { number_limit < result.1 → number_limit < natural_value (take result.0 word.now) }
+{
+    if word.len() <= SHORT_LEN {
+        short_digits(word)
+    } else {
+        long_digits(word)
+    }
 }
 
 // Whether the word begins with `-`, and the word without a sign.

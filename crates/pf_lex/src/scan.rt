@@ -3,6 +3,8 @@ ghost use Rattle.std.specs.Prelude.{◌≡◌, ◌<◌, ◌≤◌, ◌↔◌, Is
 ghost use Rattle.std.specs.List.{prefix_len, position_or_len, before_first, after_first};
 ghost use Rattle.pf_lex.specs.Text.{is_gap, is_newline, is_word_byte};
 
+use memchr::memchr;
+
 fn is_gap(byte: u8) -> bool
     ensures { result ≡ is_gap byte }
 {
@@ -51,17 +53,13 @@ pub(crate) fn starts_word(bytes: &[u8]) -> bool
     }
 }
 
-// How many bytes stand before the first newline.
+// How many bytes stand before the first newline. Out of line, since the search is large.
+#[inline(never)]
 fn line_len(bytes: &[u8]) -> usize
     ensures in_range { result ≤ length bytes.now }
     ensures run { result ≡ position_or_len is_newline bytes.now }
 {
-    for (n, byte) in bytes.iter().enumerate() {
-        if *byte == b'\n' {
-            return n;
-        }
-    }
-    bytes.len()
+    memchr(b'\n', bytes).unwrap_or(bytes.len())
 }
 
 // The first line, and what follows its newline.

@@ -26,6 +26,10 @@ pub fn refused<E: WordFault>(line: u32, word: Token<'_>) -> E
 pub fn end_line<E: WordFault>(line: u32, mut words: Words<'_>) -> Result<(), E>
     ensures { result ≡ at_line_end (E.word_refused line) words.entry.words (Ok tt) }
 {
+    // Most lines end right behind their last word.
+    if words.is_at_end() {
+        return Ok(());
+    }
     match words.next() {
         Some(word) => Err(refused(line, word)),
         None => Ok(()),

@@ -1,5 +1,5 @@
 //! Lines and words of a text.
-ghost use Rattle.std.specs.Prelude.{◌≡◌, ◌+◌, ◌<◌, ◌≤◌, [], ◌∷◌, length, MatchOption, IfNone, IfSome, true};
+ghost use Rattle.std.specs.Prelude.{◌≡◌, ◌+◌, ◌<◌, ◌≤◌, [], ◌∷◌, length, MatchOption, IfNone, IfSome, IsTrue, true};
 ghost use Rattle.std.specs.Iterator.{item_count};
 ghost use Rattle.pf_lex.specs.Text.{is_nonempty, words_of, text_lines, text_lines_from, lines_past, lines_past_from};
 ghost use Rattle.pf_lex.specs.Token.{TakesFirstWord};
@@ -42,6 +42,13 @@ impl<'a> Words<'a> {
         ensures { result ≡ self.now.line }
     {
         self.line
+    }
+
+    // Whether nothing at all is left of the line, not even gaps or a comment.
+    pub(crate) fn is_at_end(&self) -> bool
+        ensures { IsTrue result → self.now.words ≡ [] }
+    {
+        self.rest.is_empty()
     }
 
     // The words of a line, if it has any.
@@ -156,6 +163,8 @@ impl<'a> Iterator for Words<'a> {
 
     ghost remaining = { item_count (λ line. line.words) };
 
+    // Out of line, so that its loops have the registers to themselves wherever words are taken.
+    #[inline(never)]
     fn next(&mut self) -> Option<Token<'a>> {
         let gaps = gap_len(self.rest);
         let from = &self.rest[gaps..];

@@ -36,6 +36,9 @@ pub enum WriteErr {
 
 const FIRST_LEN: usize = 4096;
 
+// How much longer a buffer is made at once. What is read into a longer one would no longer be at hand from making it.
+const MOST_MORE: usize = 1 << 18;
+
 /// The bytes of the file, which are at most `limit`. Memory is taken as the file is read: at most in proportion to
 /// what it has, whatever the limit.
 pub fn read_all<S: Shelf>(
@@ -106,8 +109,8 @@ fn grow(file: &mut Vec<u8>, at: usize, limit: u64) -> Result<(), AllocError>
     Ok(())
 }
 
-// How long the buffer for a file is made where it has this length and is full: twice that, and no more than one byte
-// past the limit.
+// How long the buffer for a file is made where it has this length and is full: twice that, no more than `MOST_MORE`
+// longer, and no more than one byte past the limit.
 fn next_len(len: usize, limit: u64) -> usize
     requires within { len ≤ limit }
     requires small { len < 2 ^ 63 }
@@ -116,7 +119,8 @@ fn next_len(len: usize, limit: u64) -> usize
     ensures follows { result ≤ max (2 * len) FIRST_LEN }
 {
     let most = limit.saturating_add(1) as usize;
-    len.saturating_mul(2).max(FIRST_LEN).min(most)
+    let twice = len.saturating_mul(2).max(FIRST_LEN);
+    twice.min(len.saturating_add(MOST_MORE)).min(most)
 }
 
 /// Writes the file, new or not. It takes no memory of its own.

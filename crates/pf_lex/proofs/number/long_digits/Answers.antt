@@ -4,8 +4,8 @@ use Rattle.std.specs.Char.{is_ascii_digit}
 use Rattle.std.proofs.lemmas.List.Sums.{prefix_len_is}
 use Rattle.pf_lex.proofs.NumberLemmas.{natural_value-more, past_room}
 use Rattle.pf_lex.proofs.RunLemmas.{whole_run}
-use Rattle.pf_lex.proofs.number.leading_digits.Goals as goal
-use Rattle.pf_lex.proofs.number.leading_digits.Goals.{then-value-lt-ROOM, else-value-lt-ROOM}
+use Rattle.pf_lex.proofs.number.long_digits.Goals as goal
+use Rattle.pf_lex.proofs.number.long_digits.Goals.{then-value-lt-ROOM, else-value-lt-ROOM}
 
 pub loop-n-preserved : goal.loop-n-preserved
 loop-n-preserved c =

@@ -1,7 +1,7 @@
 use Rattle.std.proofs.Common.{◌≡◌, ℕ, ◌<◌, ◌≤◌, true, get_or, take}
 use Rattle.std.specs.Char.{is_ascii_digit}
 use Rattle.pf_lex.specs.Number.{natural_value, number_limit}
-use Rattle.pf_lex.proofs.number.leading_digits.Given as goal
+use Rattle.pf_lex.proofs.number.long_digits.Given as goal
 
 abbrev pub invariant-loop-n : goal.invariant-loop-n
 invariant-loop-n l = record {
