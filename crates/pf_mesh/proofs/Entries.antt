@@ -1,23 +1,24 @@
 -- A table has three entries for each triangle that it shows.
-use Rattle.std.proofs.Common.{◌≡◌, ℕ, ◌*◌, List, [], ◌∷◌, length, refl, sym, ◌∙◌, ap, Bool, true, false, is_some, inl, inr, cond, arith, Some, ◌==◌, ◌&&◌, ◌||◌}
+use Rattle.std.proofs.Common.{◌≡◌, ℕ, ◌*◌, List, [], ◌∷◌, length, refl, sym, ◌∙◌, ap, Bool, true, false, is_some, inl, inr, cond, arith, Option, Some, None, subst, ◌==◌, ◌&&◌, ◌||◌}
 use Rattle.std.specs.Prelude.{Contains}
 use Rattle.std.specs.List.{IsDistinct, AllByRecursion, list_any}
 use Rattle.std.specs.Set.{is_member}
 use Rattle.std.proofs.lemmas.Bool.Decides.{nat_tests}
 use Rattle.std.proofs.lemmas.Map.Keys.{IsDistinct-cons}
-use Rattle.std.proofs.lemmas.Map.Made.{is_some-lookup, length-from_same_keys}
+use Rattle.std.proofs.lemmas.Map.Made.{is_some-lookup, length-from_same_keys, length-le_from_is_member}
 use Rattle.std.proofs.lemmas.List.{length-map}
 use Rattle.indexmap.specs.IndexMap.{IsUnique, index_map_len, keys}
 use Rattle.pf_model.specs.declared.Tri.{Tri}
-use Rattle.pf_model.specs.Mesh.{has_edge, apex_in, side_of}
+use Rattle.pf_model.specs.Mesh.{Side, has_edge, apex_in, side_of}
 use Rattle.pf_model.proofs.Members.{here, there}
+use Rattle.pf_model.proofs.Kept.{side_of-found}
 use Rattle.pf_mesh.specs.declared.table.Edge.{Edge}
 use Rattle.pf_mesh.specs.declared.table.Left.{Left}
 use Rattle.pf_mesh.specs.Exchange.{IsTurned, AreSound}
 use Rattle.pf_mesh.specs.Table.{Sides, edge_eq, side_at}
 use Rattle.pf_mesh.proofs.Exchange.{bool_cases}
 use Rattle.pf_mesh.proofs.TableSteps.{edge_one, edge_two, edge_three}
-use Rattle.pf_mesh.proofs.Sides.{edge_laws, is_some-side_at}
+use Rattle.pf_mesh.proofs.Sides.{edge_laws, edge_exact, is_some-side_at}
 
 -- the directed edges of the triangles, as keys of the table
 abbrev keys_from : List Tri → List Edge
@@ -104,3 +105,28 @@ entries-counted sides ts unique shown sound =
         sym (is_some-lookup (edge_eq e) sides.entries)
         ∙ (is_some-side_at sides e.from e.to
         ∙ (ap is_some (shown e.from e.to) ∙ (side_of-any ts e.from e.to ∙ sym (keys-any ts e.from e.to))))
+
+-- where each side of the triangles is there, and there are no more, no other is there
+pub no_others : (sides : Sides) (ts : List Tri) → IsUnique edge_eq sides → AreSound ts → index_map_len sides ≡ 3 * length ts → ((p q : ℕ) → is_some (side_of ts p q) ≡ true → is_some (side_at sides p q) ≡ true) → (p q : ℕ) → side_of ts p q ≡ None → side_at sides p q ≡ None
+no_others sides ts unique sound len has p q none = go (side_at sides p q) refl
+  where
+    edge : Edge
+    edge = record { from = p; to = q }
+
+    member : (e : Edge) → is_member edge_eq (keys sides) e ≡ is_some (side_at sides e.from e.to)
+    member e = sym (is_some-lookup (edge_eq e) sides.entries) ∙ is_some-side_at sides e.from e.to
+
+    among : (e : Edge) (b : Bool) → is_some (side_at sides p q) ≡ true → edge_eq e edge ≡ b → (b || is_member edge_eq (keys_from ts) e) ≡ true → is_member edge_eq (keys sides) e ≡ true
+    among e true there i k = member e ∙ subst (λ x. is_some (side_at sides x.from x.to) ≡ true) (sym (edge_exact e edge i)) there
+    among e false there i k = member e ∙ has e.from e.to (side_of-any ts e.from e.to ∙ (sym (keys-any ts e.from e.to) ∙ k))
+
+    bare : (s : Tri) → Contains ts s → has_edge p q s ≡ false
+    bare s h = elim (bool_cases (has_edge p q s)) [ inl x ↦ absurd (let found = side_of-found ts sound.edges_once p q s h x in let z = sym none ∙ found in cc) | inr x ↦ x ]
+
+    go : (o : Option Side) → side_at sides p q ≡ o → side_at sides p q ≡ None
+    go None e = e
+    go (Some s) e =
+        absurd (let le = length-le_from_is_member edge_laws (edge ∷ keys_from ts) (keys sides) (IsDistinct-cons edge_eq edge (keys_from ts) (keys-absent ts edge bare) (keys-distinct ts sound)) (λ x h. among x (edge_eq x edge) (ap is_some e) refl h) in
+        let all = keys-length ts in
+        let keyed : length (keys sides) ≡ index_map_len sides = length-map sides.entries (λ (x : Edge × Left). x.0) in
+        omega (arith, le, all, keyed, len))

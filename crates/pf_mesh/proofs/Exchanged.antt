@@ -1,9 +1,9 @@
 -- What the edge table shows after some triangles gave way to others.
-use Rattle.std.proofs.Common.{◌≡◌, ℕ, ◌+◌, ◌-◌, List, [], ◌∷◌, refl, sym, ◌∙◌, ap, subst, Bool, true, false, not, cond, ◌⊎◌, inl, inr, arith, Option, Some, None, ◌&&◌, ◌||◌}
+use Rattle.std.proofs.Common.{◌≡◌, ℕ, ◌+◌, ◌-◌, ◌*◌, List, length, is_some, [], ◌∷◌, refl, sym, ◌∙◌, ap, subst, Bool, true, false, not, cond, ◌⊎◌, inl, inr, arith, Option, Some, None, ◌&&◌, ◌||◌}
 use Rattle.std.specs.Prelude.{All, Contains}
 use Rattle.std.specs.List.{list_any}
 use Rattle.std.proofs.lemmas.List.Elements.{Contains-get_or}
-use Rattle.indexmap.specs.IndexMap.{IsUnique}
+use Rattle.indexmap.specs.IndexMap.{IsUnique, index_map_len}
 use Rattle.pf_model.specs.declared.Tri.{Tri}
 use Rattle.pf_model.specs.Rising.{insert_by, insert_all_by}
 use Rattle.pf_model.specs.Mesh.{Side, tri_lt, has_edge, has_corner, side_of}
@@ -12,10 +12,10 @@ use Rattle.pf_model.proofs.Kept.{any-means, has_edge-first}
 use Rattle.pf_mesh.specs.declared.table.Node.{Node}
 use Rattle.pf_mesh.specs.Exchange.{IsTurned, IsNone, AreOnce, AreSound, SharesNoEdge, AreFit, CanTake, CanExchange, without, without_all, exchanged, tally}
 use Rattle.pf_mesh.specs.Table.{Sides, edge_eq, side_at, triangles_at, number_at, ShowsTriangles}
-use Rattle.pf_mesh.specs.TableSteps.{side_with, side_with_all, side_without}
-use Rattle.pf_mesh.proofs.Exchange.{side_in, side_of-insert, side_of-without, tally-insert, tally-without}
+use Rattle.pf_mesh.specs.TableSteps.{side_with, side_with_all, side_without, is_struck}
+use Rattle.pf_mesh.proofs.Exchange.{side_in, side_of-insert, side_of-without, tally-insert, tally-without, length-tally}
 use Rattle.pf_mesh.proofs.TableSteps.{can_take-rest}
-use Rattle.pf_mesh.proofs.Entries.{entries-counted}
+use Rattle.pf_mesh.proofs.Entries.{entries-counted, no_others}
 
 -- a triangle with the edge covers what was there
 entered : (t : Tri) (p q : ℕ) (x y : Option Side) → has_edge p q t ≡ true → side_with t p q x ≡ side_with t p q y
@@ -160,16 +160,54 @@ sides-exchanged gone new ts p q can = go (list_any (has_edge p q) new) refl ∙ 
         ∙ (ap (λ o. cond (list_any (has_edge p q) gone) None o) (with_all-none new p q (side_of ts p q) e)
         ∙ (sym taken ∙ sym (with_all-none new p q (side_of (without_all gone ts) p q) e))))
 
+-- how many triangles there are then
+pub length-exchanged : (gone new ts : List Tri) → CanTake gone ts → length (exchanged gone new ts) + length gone ≡ length ts + length new
+length-exchanged gone new ts can =
+    let a = tally-insert_all (λ t. 1) new (without_all gone ts) in
+    let b = tally-without_all (λ t. 1) gone ts can in
+    let i = length-tally (exchanged gone new ts) in
+    let g = length-tally gone in
+    let n = length-tally new in
+    let t = length-tally ts in
+    omega (arith, a, b, i, g, n, t)
+
+-- the sides after the second list is entered and edges are struck that only the first has: all of them, or as many as should go
+pub sides-struck : (entered last : Sides) (gone new ts : List Tri) (left : ℕ) → ((p q : ℕ) → side_at entered p q ≡ side_with_all new p q (side_of ts p q))
+    → ((p q : ℕ) → is_struck gone new p q ≡ false → side_at last p q ≡ side_at entered p q)
+    → (index_map_len last ≡ left) ⊎ ((p q : ℕ) → is_struck gone new p q ≡ true → side_at last p q ≡ None)
+    → left ≡ 3 * length (exchanged gone new ts) → IsUnique edge_eq last → CanExchange gone new ts → (p q : ℕ) → side_at last p q ≡ side_of (exchanged gone new ts) p q
+sides-struck entered last gone new ts left sides kept struck count unique can p q = go (is_struck gone new p q) refl
+  where
+    after : List Tri
+    after = exchanged gone new ts
+
+    stays : (p q : ℕ) → is_struck gone new p q ≡ false → side_at last p q ≡ side_of after p q
+    stays p q e = kept p q e ∙ (sides p q ∙ (sym (ap (λ b. cond b None (side_with_all new p q (side_of ts p q))) e) ∙ sides-exchanged gone new ts p q can))
+
+    goes : (p q : ℕ) → is_struck gone new p q ≡ true → side_of after p q ≡ None
+    goes p q e = sym (sides-exchanged gone new ts p q can) ∙ ap (λ b. cond b None (side_with_all new p q (side_of ts p q))) e
+
+    has : (p q : ℕ) (b : Bool) → is_struck gone new p q ≡ b → is_some (side_of after p q) ≡ true → is_some (side_at last p q) ≡ true
+    has p q true e h = absurd (let z : false ≡ true = sym (ap is_some (goes p q e)) ∙ h in cc)
+    has p q false e h = ap is_some (stays p q e) ∙ h
+
+    sound : AreSound after
+    sound = sound-insert_all new (without_all gone ts) can.fit (sound-without_all gone ts can.take)
+
+    go : (b : Bool) → is_struck gone new p q ≡ b → side_at last p q ≡ side_of after p q
+    go false e = stays p q e
+    go true e = elim struck [
+      | inl few ↦ no_others last after unique sound (few ∙ count) (λ x y h. has x y (is_struck gone new x y) refl h) p q (goes p q e) ∙ sym (goes p q e)
+      | inr all ↦ all p q e ∙ sym (goes p q e)
+    ]
+
 pub shows_exchange : (old new : Sides) (before after : List Node) (gone added ts : List Tri)
-    → ((p q : ℕ) → side_at new p q ≡ side_without (list_any (has_edge p q) gone) added p q (side_with_all added p q (side_at old p q)))
+    → ((p q : ℕ) → side_at new p q ≡ side_of (exchanged gone added ts) p q)
     → ((n : ℕ) → triangles_at after n ≡ number_at n added + (triangles_at before n - number_at n gone))
     → IsUnique edge_eq new → ShowsTriangles old before ts → CanExchange gone added ts → ShowsTriangles new after (exchanged gone added ts)
-shows_exchange old new before after gone added ts sides counts unique s can =
+shows_exchange old new before after gone added ts shown counts unique s can =
     record {
       sides = shown;
       counts = λ n. (let a = counts n in let b = s.counts n in let d = tally-insert_all (λ t. cond (has_corner n t) 1 0) added (without_all gone ts) in let e = tally-without_all (λ t. cond (has_corner n t) 1 0) gone ts can.take in omega (arith, a, b, d, e));
       all = entries-counted new (exchanged gone added ts) unique shown (sound-insert_all added (without_all gone ts) can.fit (sound-without_all gone ts can.take));
     }
-  where
-    shown : (p q : ℕ) → side_at new p q ≡ side_of (exchanged gone added ts) p q
-    shown p q = sides p q ∙ (ap (λ o. side_without (list_any (has_edge p q) gone) added p q (side_with_all added p q o)) (s.sides p q) ∙ sides-exchanged gone added ts p q can)

@@ -4,6 +4,7 @@ pub mod TableSteps
 pub mod ListingLemmas
 pub mod Replaced
 pub mod FlipExchange
+pub mod Measures
 pub mod MeshLemmas
 pub mod BuildLaw
 pub mod BuiltConforms
@@ -25,7 +26,6 @@ pub mod OwnedSides
 pub mod OwnersKept
 pub mod BuiltListed
 pub mod SiteLemmas
-pub mod BuiltNames
 pub mod Relisted
 pub mod RunLemmas
 pub mod SitesCut
@@ -37,3 +37,6 @@ pub mod FlipAlone
 pub mod Entries
 pub mod Exchanged
 pub mod EdgeSpots
+pub mod NewEdges
+pub mod ToldNotes
+pub mod Rings

@@ -1,67 +1,90 @@
 -- The steps of turning round a node of a conforming mesh, and whether its spokes are one fan.
 -- Assumes `IsConforming m`.
-use Rattle.std.proofs.Common.{◌≡◌, ◌≢◌, ℕ, ◌≤◌, List, [], length, refl, sym, ◌∙◌, ap, subst, Bool, true, false, ◌==◌, arith, Some, None}
+use Rattle.std.proofs.Common.{◌≡◌, ◌≢◌, ℕ, ◌≤◌, ◌⊎◌, inl, inr, List, [], ◌∷◌, length, refl, sym, ◌∙◌, subst, Bool, true, false, ◌==◌, arith, Some, None}
+use Rattle.std.specs.Prelude.{Contains}
 use Rattle.std.proofs.lemmas.Bool.Decides.{nat_tests}
 use Rattle.pf_model.specs.declared.Spoke.{Spoke}
 use Rattle.pf_model.specs.Rising.{insert_by}
 use Rattle.pf_model.specs.Mesh.{Undivided, is_edge}
 use Rattle.pf_model.specs.Conforming.{IsConforming}
-use Rattle.pf_model.specs.Stars.{spoke_lt, spokes_of, is_one_fan}
-use Rattle.pf_model.proofs.Spokes.{spokes-simple}
+use Rattle.pf_model.specs.Stars.{spoke_lt, spokes_of}
+use Rattle.pf_model.proofs.Fans.{IsSimple}
+use Rattle.pf_model.proofs.FlipKeeps.{corners_of}
+use Rattle.pf_model.proofs.Spokes.{spokes-simple, spokes-means}
 use Rattle.pf_mesh.specs.declared.table.Node.{Node}
 use Rattle.pf_mesh.specs.Table.{Sides, Shows, triangles_at}
-use Rattle.pf_mesh.specs.Star.{has_right, IsSpokeOn, IsSpokeBefore, TurnsLeft, TurnsRight, IsTurned, IsFan}
-use Rattle.pf_mesh.proofs.StarTurns.{left-begins, left-goes, left-ends, left-full, right-goes, right-ends, right-full, all-found, torn-apart}
+use Rattle.pf_mesh.specs.Star.{IsSpokeOn, IsSpokeBefore, IsChain, IsChainToLeft, IsTurned, IsFan}
+use Rattle.pf_mesh.proofs.StarLists.{right-more}
+use Rattle.pf_mesh.proofs.StarTurns.{chain-one, chain-left, chain-right, bare-left, bare-right, round-left, round-right, all-found, all-there, all-fan, torn-apart}
 use Rattle.pf_mesh.proofs.StarSpokes.{spokes-rise, spokes-counted, edge-spoke}
 
 module _ (m : Undivided) (ok : IsConforming m) (u : ℕ) where
-  pub left-first : (v : ℕ) (found : List Spoke) → found ≡ [] → TurnsLeft (spokes_of m u) found v v
-  left-first v found e = subst (λ l. TurnsLeft (spokes_of m u) l v v) (sym e) (left-begins (spokes_of m u) (spokes-simple m ok u) v)
+  simple : IsSimple (spokes_of m u)
+  simple = spokes-simple m ok u
 
-  pub left-open : (found : List Spoke) (start next : ℕ) → TurnsLeft (spokes_of m u) found start next → IsSpokeOn (spokes_of m u) next None → TurnsRight (spokes_of m u) found start start
-  left-open found start next t s = left-ends (spokes_of m u) (spokes-simple m ok u) found start next t (λ r h e. absurd (s.absent refl r h e))
+  -- the triangles at the edge to `v`
+  ends_differ : (s : Spoke) → Contains (spokes_of m u) s → s.left ≢ s.right
+  ends_differ s h e = (corners_of m ok u s.right s.left s.owner (spokes-means m ok u s h)).distinct.two (sym e)
 
-  pub left-round : (found : List Spoke) (start next : ℕ) (x : Spoke) → TurnsLeft (spokes_of m u) found start next → IsSpokeOn (spokes_of m u) next (Some x) → has_right x.right found ≡ true → TurnsRight (spokes_of m u) found start start
-  left-round found start next x t s met = left-ends (spokes_of m u) (spokes-simple m ok u) found start next t (λ r h e. subst (λ n. has_right n found ≡ true) ((s.there x refl).1 ∙ sym e) met)
+  pub flank-on : (found : List Spoke) (v : ℕ) (x : Spoke) → found ≡ insert_by spoke_lt x [] → IsSpokeOn (spokes_of m u) v (Some x) → IsChain (spokes_of m u) found v x.left
+  flank-on found v x e s = let h = s.there x refl in subst (λ l. IsChain (spokes_of m u) l v x.left) (sym e) (subst (λ w. IsChain (spokes_of m u) (x ∷ []) w x.left) h.1 (chain-one (spokes_of m u) simple x h.0))
 
-  pub left-step : (found more : List Spoke) (start next : ℕ) (x : Spoke) → TurnsLeft (spokes_of m u) found start next → IsSpokeOn (spokes_of m u) next (Some x) → has_right x.right found ≡ false → more ≡ insert_by spoke_lt x found → TurnsLeft (spokes_of m u) more start x.left
-  left-step found more start next x t s bare e = let h = s.there x refl in subst (λ l. TurnsLeft (spokes_of m u) l start x.left) (sym e) (left-goes (spokes_of m u) (spokes-simple m ok u) found start next x t h.0 h.1 bare)
+  pub flank-before : (found : List Spoke) (v : ℕ) (x : Spoke) → found ≡ insert_by spoke_lt x [] → IsSpokeBefore (spokes_of m u) v (Some x) → IsChain (spokes_of m u) found x.right v
+  flank-before found v x e s = let h = s.there x refl in subst (λ l. IsChain (spokes_of m u) l x.right v) (sym e) (subst (λ w. IsChain (spokes_of m u) (x ∷ []) x.right w) h.1 (chain-one (spokes_of m u) simple x h.0))
 
-  pub left-all : (found : List Spoke) (start next most : ℕ) → TurnsLeft (spokes_of m u) found start next → length (spokes_of m u) ≡ most → most ≤ length found → TurnsRight (spokes_of m u) found start start
-  left-all found start next most t e l = left-full (spokes_of m u) (spokes-simple m ok u) (spokes-rise m ok u) found start next t (omega (arith, e, l))
+  pub flanks-both : (found : List Spoke) (v : ℕ) (x y : Spoke) → found ≡ insert_by spoke_lt y (insert_by spoke_lt x []) → IsSpokeOn (spokes_of m u) v (Some x) → IsSpokeBefore (spokes_of m u) v (Some y) → IsChain (spokes_of m u) found y.right x.left
+  flanks-both found v x y e s t =
+      let h = s.there x refl in
+      let k = t.there y refl in
+      let one = flank-on (x ∷ []) v x refl s in
+      subst (λ l. IsChain (spokes_of m u) l y.right x.left) (sym e) (chain-right (spokes_of m u) simple (x ∷ []) v x.left y one k.0 k.1 (bare-right (spokes_of m u) simple (spokes-rise m ok u) (x ∷ []) v x.left y one k.0 k.1 (λ q. ends_differ x h.0 (q ∙ sym h.1))))
 
-  pub right-open : (found : List Spoke) (start next : ℕ) → TurnsRight (spokes_of m u) found start next → IsSpokeBefore (spokes_of m u) next None → IsTurned (spokes_of m u) found start
-  right-open found start next t s = right-ends (spokes_of m u) (spokes-simple m ok u) found start next t (λ r h e. absurd (s.absent refl r h e))
+  pub flanks-none : (v : ℕ) → is_edge m.tris u v ≡ true → IsSpokeOn (spokes_of m u) v None → IsSpokeBefore (spokes_of m u) v None → ⊥
+  flanks-none v e s t = let x = edge-spoke m ok u v e in elim x.2 [ inl q ↦ s.absent refl x.0 x.1 q | inr q ↦ t.absent refl x.0 x.1 q ]
 
-  pub right-round : (found : List Spoke) (start next : ℕ) (x : Spoke) → TurnsRight (spokes_of m u) found start next → IsSpokeBefore (spokes_of m u) next (Some x) → has_right x.right found ≡ true → IsTurned (spokes_of m u) found start
-  right-round found start next x t s met = right-ends (spokes_of m u) (spokes-simple m ok u) found start next t (λ r h e. let k = s.there x refl in subst (λ n. has_right n found ≡ true) ((spokes-simple m ok u).one_right x r k.0 h (k.1 ∙ sym e)) met)
+  -- turning left
+  pub left-step : (found more : List Spoke) (first last : ℕ) (x : Spoke) → IsChain (spokes_of m u) found first last → last ≢ first → IsSpokeOn (spokes_of m u) last (Some x) → more ≡ insert_by spoke_lt x found → IsChain (spokes_of m u) more first x.left
+  left-step found more first last x t n s e = let h = s.there x refl in subst (λ l. IsChain (spokes_of m u) l first x.left) (sym e) (chain-left (spokes_of m u) simple found first last x t h.0 h.1 (bare-left (spokes_of m u) simple (spokes-rise m ok u) found first last x t h.0 h.1 n))
 
-  pub right-step : (found more : List Spoke) (start next : ℕ) (x : Spoke) → TurnsRight (spokes_of m u) found start next → IsSpokeBefore (spokes_of m u) next (Some x) → has_right x.right found ≡ false → more ≡ insert_by spoke_lt x found → TurnsRight (spokes_of m u) more start x.right
-  right-step found more start next x t s bare e = let h = s.there x refl in subst (λ l. TurnsRight (spokes_of m u) l start x.right) (sym e) (right-goes (spokes_of m u) (spokes-simple m ok u) found start next x t h.0 h.1 bare)
+  pub left-open : (found : List Spoke) (first last : ℕ) → IsChain (spokes_of m u) found first last → IsSpokeOn (spokes_of m u) last None → IsChainToLeft (spokes_of m u) found first last
+  left-open found first last t s = record { chain = t; after = λ r h e. absurd (s.absent refl r h e) }
 
-  pub right-all : (found : List Spoke) (start next most : ℕ) → TurnsRight (spokes_of m u) found start next → length (spokes_of m u) ≡ most → most ≤ length found → IsTurned (spokes_of m u) found start
-  right-all found start next most t e l = right-full (spokes_of m u) (spokes-simple m ok u) (spokes-rise m ok u) found start next t (omega (arith, e, l))
+  pub left-ends : (found : List Spoke) (first last most : ℕ) → IsChain (spokes_of m u) found first last → length (spokes_of m u) ≡ most → (most ≤ length found) ⊎ (last ≡ first) → IsChainToLeft (spokes_of m u) found first last
+  left-ends found first last most t e (inl l) = record { chain = t; after = λ s h q. all-there (spokes_of m u) simple (spokes-rise m ok u) found t.part (omega (arith, e, l)) s h }
+  left-ends found first last most t e (inr q) = record { chain = t; after = round-left (spokes_of m u) simple found first last t q }
 
-  -- fewer were found than there are
-  pub fan-torn : (v most : ℕ) (found : List Spoke) → is_edge m.tris u v ≡ true → IsTurned (spokes_of m u) found v → length (spokes_of m u) ≡ most → length found ≢ most → is_one_fan (spokes_of m u) ≡ false
-  fan-torn v most found edge t e less =
-      let s = edge-spoke m ok u v edge in
-      torn-apart (spokes_of m u) found v (spokes-simple m ok u) (spokes-rise m ok u) t (t.some s.0 s.1 s.2) (λ q. less (q ∙ e))
+  -- turning right
+  pub right-step : (found more : List Spoke) (first last : ℕ) (x : Spoke) → IsChainToLeft (spokes_of m u) found first last → last ≢ first → IsSpokeBefore (spokes_of m u) first (Some x) → more ≡ insert_by spoke_lt x found → IsChainToLeft (spokes_of m u) more x.right last
+  right-step found more first last x t n s e =
+      let h = s.there x refl in
+      subst (λ l. IsChainToLeft (spokes_of m u) l x.right last) (sym e) record {
+        chain = chain-right (spokes_of m u) simple found first last x t.chain h.0 h.1 (bare-right (spokes_of m u) simple (spokes-rise m ok u) found first last x t.chain h.0 h.1 n);
+        after = λ r k q. right-more r.right x found (t.after r k q);
+      }
 
-  -- as many were found as there are
-  pub fan-whole : (v most : ℕ) (found : List Spoke) → IsTurned (spokes_of m u) found v → length (spokes_of m u) ≡ most → length found ≡ most → found ≡ spokes_of m u
-  fan-whole v most found t e all = all-found (spokes_of m u) (spokes-simple m ok u) (spokes-rise m ok u) found t.part (omega (arith, e, all))
+  pub right-open : (found : List Spoke) (first last : ℕ) → IsChainToLeft (spokes_of m u) found first last → IsSpokeBefore (spokes_of m u) first None → IsTurned (spokes_of m u) found
+  right-open found first last t s = record { first = first; last = last; left = t; before = λ r h e. absurd (s.absent refl r h e) }
 
--- fewer were found than there are
-pub fan-short : (spokes found : List Spoke) (n most : ℕ) → n ≢ most → is_one_fan spokes ≡ false → IsFan spokes (n == most) found
-fan-short spokes found n most less e = record { told = test n most less ∙ sym e; whole = λ k. absurd (let z : false ≡ true = sym (test n most less) ∙ k in cc) }
-  where
-    test : (a b : ℕ) → a ≢ b → (a == b) ≡ false
-    test a b l = grind (arith, nat_tests)
+  pub right-ends : (found : List Spoke) (first last most : ℕ) → IsChainToLeft (spokes_of m u) found first last → length (spokes_of m u) ≡ most → (most ≤ length found) ⊎ (last ≡ first) → IsTurned (spokes_of m u) found
+  right-ends found first last most t e (inl l) = record { first = first; last = last; left = t; before = λ s h q. all-there (spokes_of m u) simple (spokes-rise m ok u) found t.chain.part (omega (arith, e, l)) s h }
+  right-ends found first last most t e (inr q) = record { first = first; last = last; left = t; before = round-right (spokes_of m u) simple found first last t.chain q }
 
--- as many were found
-pub fan-told : (spokes found : List Spoke) (b : Bool) → found ≡ spokes → b ≡ is_one_fan found → IsFan spokes b found
-fan-told spokes found b e f = record { told = f ∙ ap is_one_fan e; whole = λ k. e }
+  -- what was found is all that there is, or no fan
+  pub fan-found : (most n : ℕ) (found : List Spoke) → IsTurned (spokes_of m u) found → length (spokes_of m u) ≡ most → n ≡ length found → IsFan (spokes_of m u) (n == most) found
+  fan-found most n found t e q = go (n == most) refl
+    where
+      less : (a b : ℕ) → (a == b) ≡ false → a ≢ b
+      less a b h = grind (arith, nat_tests)
+
+      same : (a b : ℕ) → (a == b) ≡ true → a ≡ b
+      same a b h = grind (arith, nat_tests)
+
+      enough : (n ≡ most) → length (spokes_of m u) ≤ length found
+      enough k = omega (arith, e, q, k)
+
+      go : (b : Bool) → (n == most) ≡ b → IsFan (spokes_of m u) b found
+      go true k = record { told = sym (all-fan (spokes_of m u) simple (spokes-rise m ok u) found t.first t.last t.left.chain (enough (same n most k))); whole = λ x. all-found (spokes_of m u) simple (spokes-rise m ok u) found t.left.chain.part (enough (same n most k)) }
+      go false k = record { told = sym (torn-apart (spokes_of m u) found simple (spokes-rise m ok u) t (λ x. less n most k (q ∙ (x ∙ e)))); whole = λ x. absurd (let z : false ≡ true = x in cc) }
 
 -- the table counts the spokes
 pub counted : (sides : Sides) (nodes : List Node) (m : Undivided) → Shows sides nodes m → (u most : ℕ) → most ≡ triangles_at nodes u → length (spokes_of m u) ≡ most

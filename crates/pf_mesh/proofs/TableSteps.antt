@@ -12,7 +12,7 @@ use Rattle.pf_model.proofs.Members.{here, there, filter-in}
 use Rattle.pf_mesh.specs.declared.table.Node.{Node}
 use Rattle.pf_mesh.specs.Exchange.{AreFit, CanTake, SharesNoEdge, without}
 use Rattle.pf_mesh.specs.Table.{Sides, side_at, triangles_at, number_at, ShowsTriangles, HasSamePlaces}
-use Rattle.pf_mesh.specs.TableSteps.{side_with, side_without}
+use Rattle.pf_mesh.specs.TableSteps.{side_with, side_without, side_bare, is_bare, AreBare}
 use Rattle.pf_mesh.proofs.Exchange.{bool_cases, side_of-insert, tally-insert, length-tally, side_of-absent, sound-filter}
 use Rattle.pf_mesh.proofs.Sides.{same_ends}
 
@@ -61,6 +61,80 @@ struck-three t new p q old = go (t.a == p && t.b == q) (t.b == p && t.c == q) (t
     go false false true false = refl
     go false false false true = refl
     go false false false false = refl
+
+-- what `strike_bare_edges` does to a side, edge by edge
+pub bare-three : (t : Tri) (p q : ℕ) (bare : Bool) (old : Option Side)
+    → side_bare (t.c == p && t.a == q) bare (side_bare (t.b == p && t.c == q) bare (side_bare (t.a == p && t.b == q) bare old)) ≡ side_bare (has_edge p q t) bare old
+bare-three t p q bare old = go (t.a == p && t.b == q) (t.b == p && t.c == q) (t.c == p && t.a == q) bare
+  where
+    go : (x y z n : Bool) → cond (z && n) None (cond (y && n) None (cond (x && n) None old)) ≡ cond ((x || (y || z)) && n) None old
+    go true true true true = refl
+    go true true true false = refl
+    go true true false true = refl
+    go true true false false = refl
+    go true false true true = refl
+    go true false true false = refl
+    go true false false true = refl
+    go true false false false = refl
+    go false true true true = refl
+    go false true true false = refl
+    go false true false true = refl
+    go false true false false = refl
+    go false false true true = refl
+    go false false true false = refl
+    go false false false true = refl
+    go false false false false = refl
+
+-- what two steps of striking bare edges do
+pub bare-cons : (x y bare : Bool) (old : Option Side) → side_bare y bare (side_bare x bare old) ≡ side_bare (x || y) bare old
+bare-cons true true true old = refl
+bare-cons true true false old = refl
+bare-cons true false true old = refl
+bare-cons true false false old = refl
+bare-cons false true true old = refl
+bare-cons false true false old = refl
+bare-cons false false true old = refl
+bare-cons false false false old = refl
+
+-- a bare edge is at u
+at_node : (u v : ℕ) (all : Bool) (p q : ℕ) → is_bare u v all p q ≡ true → (p == u || q == u) ≡ true
+at_node u v all p q h = go (p == u) (q == u) (all || q == v) (all || p == v) h
+  where
+    go : (x y a b : Bool) → ((x && a) || (y && b)) ≡ true → (x || y) ≡ true
+    go true y a b h = refl
+    go false true a b h = refl
+    go false false a b h = h
+
+-- a triangle without a corner at a node has no edge there
+no_edge : (t : Tri) (p q n : ℕ) → (p == n || q == n) ≡ true → has_corner n t ≡ false → has_edge p q t ≡ false
+no_edge t p q n e h = grind (arith, nat_tests)
+
+no_edges : (ts : List Tri) (p q n : ℕ) → (p == n || q == n) ≡ true → list_any (has_corner n) ts ≡ false → list_any (has_edge p q) ts ≡ false
+no_edges [] p q n e h = refl
+no_edges (t ∷ ts) p q n e h = go (has_corner n t) refl h (no_edges ts p q n e)
+  where
+    go : (b : Bool) → has_corner n t ≡ b → (b || list_any (has_corner n) ts) ≡ false → (list_any (has_corner n) ts ≡ false → list_any (has_edge p q) ts ≡ false)
+        → (has_edge p q t || list_any (has_edge p q) ts) ≡ false
+    go true i k rest = absurd (let z : true ≡ false = k in cc)
+    go false i k rest = rw (no_edge t p q n e i) (rest k)
+
+-- where none of the triangles has a corner at u, all edges there are bare
+pub bare-all : (ts : List Tri) (u v : ℕ) (all : Bool) → list_any (has_corner u) ts ≡ false → AreBare u v all ts
+bare-all ts u v all h p q b = no_edges ts p q u (at_node u v all p q b) h
+
+-- a triangle without one of two corners has no edge between them
+no_edge-both : (t : Tri) (u v p q : ℕ) → is_bare u v false p q ≡ true → (has_corner u t && has_corner v t) ≡ false → has_edge p q t ≡ false
+no_edge-both t u v p q e h = grind (arith, nat_tests)
+
+-- where none of the triangles has both corners, the edges between them are bare
+pub bare-both : (ts : List Tri) (u v : ℕ) → list_any (λ t. has_corner u t && has_corner v t) ts ≡ false → AreBare u v false ts
+bare-both [] u v h p q b = refl
+bare-both (t ∷ ts) u v h p q b = go (has_corner u t && has_corner v t) refl h (λ k. bare-both ts u v k p q b)
+  where
+    go : (x : Bool) → (has_corner u t && has_corner v t) ≡ x → (x || list_any (λ s. has_corner u s && has_corner v s) ts) ≡ false → (list_any (λ s. has_corner u s && has_corner v s) ts ≡ false → list_any (has_edge p q) ts ≡ false)
+        → (has_edge p q t || list_any (has_edge p q) ts) ≡ false
+    go true i k rest = absurd (let z : true ≡ false = k in cc)
+    go false i k rest = rw (no_edge-both t u v p q b i) (rest k)
 
 pub tally-le : (n : ℕ) (ts : List Tri) → number_at n ts ≤ length ts
 tally-le n [] = omega arith

@@ -1,5 +1,5 @@
 -- The conditions of a contraction that are asked of the star of the node that goes, and what the contraction makes of it.
-use Rattle.std.specs.Prelude.{ℕ, pos, List, [], ◌∷◌, ◌++◌, Bool, not, ◌&&◌, ◌||◌, ◌==◌, Option, filter, map, min, max, unwrap_or}
+use Rattle.std.specs.Prelude.{◌≡◌, ◌≤◌, ℕ, pos, List, [], ◌∷◌, ◌++◌, Bool, true, not, ◌&&◌, ◌||◌, ◌==◌, Option, filter, length, map, min, max, unwrap_or}
 use Rattle.std.specs.Ordering.{int_eq}
 use Rattle.pf_model.specs.declared.Tri.{Tri}
 use Rattle.pf_model.specs.declared.Spoke.{Spoke}
@@ -8,8 +8,9 @@ use Rattle.pf_model.specs.declared.Cond.TheVariants.{Corner, OffBoundary, LinkNo
 use Rattle.pf_model.specs.Clauses.{when, when_some}
 use Rattle.pf_model.specs.Mesh.{Undivided, side_of, tri_of, turn_at}
 use Rattle.pf_model.specs.Lengths.{is_long}
-use Rattle.pf_model.specs.Stars.{is_on_boundary, path_start, path_end, is_neighbour}
+use Rattle.pf_model.specs.Stars.{is_on_boundary, is_one_fan, path_start, path_end, is_neighbour, spokes_of}
 use Rattle.pf_model.specs.Conditions.{neighbours, least_that, inverted, is_apex}
+use Rattle.pf_mesh.specs.declared.contract.Rim.{Rim}
 use Rattle.pf_mesh.specs.Star.{has_right}
 
 -- the rights of the spokes, and the lefts that are no rights
@@ -57,3 +58,19 @@ star_tris u us = map (tri_at u) us
 -- those without v, with v in the place of u
 abbrev pub moved_tris : ℕ → List Spoke → List Tri
 moved_tris v us = map (tri_at v) (filter (is_without v) us)
+
+-- what the star of u says by itself: where its path begins and ends, and whether it bends at u
+pub record IsRim (m : Undivided) (u : ℕ) (us : List Spoke) (rim : Rim) : Type 0 where
+  pub first : rim.first ≡ path_start us us
+  pub last : rim.last ≡ unwrap_or (path_end us us) 0
+  pub bent : rim.bent ≡ is_corner m u us
+
+-- the least of these names that passes is the least neighbour that does
+abbrev pub AreAround : List Spoke → List ℕ → Type 0
+AreAround us names = (p : ℕ → Bool) → least_that p names ≡ least_that p (neighbours us)
+
+-- these are the spokes of u, few enough, and one cycle or one path
+pub record IsStar (m : Undivided) (u : ℕ) (us : List Spoke) : Type 0 where
+  pub all : us ≡ spokes_of m u
+  pub few : length (spokes_of m u) ≤ 60
+  pub fan : is_one_fan (spokes_of m u) ≡ true

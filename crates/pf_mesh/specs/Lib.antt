@@ -15,3 +15,4 @@ pub mod Run
 pub mod Rest
 pub mod TableSteps
 pub mod Hasher
+pub mod Ring

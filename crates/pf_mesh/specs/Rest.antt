@@ -2,8 +2,10 @@
 use Rattle.std.specs.Prelude.{◌≡◌, ◌≤◌, ℕ, List, [], ◌∷◌, All, Option, Some, None, filter, map, slice_get}
 use Rattle.std.specs.Option.{option_map}
 use Rattle.pf_model.specs.declared.Tri.{Tri}
-use Rattle.pf_model.specs.declared.Op.TheVariants.{Bisect}
+use Rattle.pf_model.specs.declared.Op.{Op}
+use Rattle.pf_model.specs.declared.Op.TheVariants.{Bisect, Contract}
 use Rattle.pf_model.specs.declared.RestLine.{RestLine}
+use Rattle.pf_model.specs.declared.Cond.{Cond}
 use Rattle.pf_model.specs.Mesh.{Undivided, DirectedEdge}
 use Rattle.pf_model.specs.Lengths.{Edge, edge_of}
 use Rattle.pf_model.specs.Sums.{is_counted}
@@ -12,7 +14,10 @@ use Rattle.pf_model.specs.Wishes.{acting_chunk, next_longer, terminal_of}
 use Rattle.pf_mesh.specs.declared.rest.edges.Sided.{Sided}
 use Rattle.pf_mesh.specs.declared.rest.edges.Spot.{Spot}
 use Rattle.pf_mesh.specs.declared.rest.known.End.{End}
+use Rattle.pf_mesh.specs.declared.rest.told.Notes.{Notes}
+use Rattle.pf_mesh.specs.declared.rest.told.Told.{Told}
 use Rattle.pf_mesh.specs.Lengths.{span_value}
+use Rattle.pf_mesh.specs.Ring.{AreRings}
 use Rattle.pf_mesh.specs.Table.{Sides, side_value, side_at}
 
 -- the edges of the directed ones that are counted
@@ -64,3 +69,25 @@ pub record AreAtEnds (m : Undivided) (edges : List Sided) (ends : List (Option E
 -- the walks from the edges at these places end there
 abbrev pub LeadTo : Undivided → List Sided → List ℕ → Edge → Type 0
 LeadTo m edges way t = All (λ i. (e : Sided) → slice_get edges i ≡ Some e → terminal_of m (sided_edge e) ≡ t) way
+
+-- the edge's contraction onto its higher end
+abbrev pub onto_hi : Edge → Op
+onto_hi e = Contract e.lo e.hi
+
+-- and onto its lower end
+abbrev pub onto_lo : Edge → Op
+onto_lo e = Contract e.hi e.lo
+
+-- the first condition that an operation at the edge fails, asked by its acting chunk
+abbrev pub told_of : Undivided → (Edge → Op) → Edge → Option Cond
+told_of m op e = first_failing m (acting_chunk m e) (op e)
+
+-- what is noted at a place is what the operation at the edge there fails
+pub record AreTold (m : Undivided) (edges : List Sided) (op : Edge → Op) (told : List (Option Told)) : Type 0 where
+  pub each : (i : ℕ) (e : Sided) (t : Told) → slice_get edges i ≡ Some e → slice_get told i ≡ Some (Some t) → t.cond ≡ told_of m op (sided_edge e)
+
+-- so it is for the contractions onto both ends, and what is noted of nodes are their neighbours
+pub record AreNotes (m : Undivided) (edges : List Sided) (notes : Notes) : Type 0 where
+  pub rings : AreRings m notes.rings.items
+  pub hi : AreTold m edges onto_hi notes.onto_hi.items
+  pub lo : AreTold m edges onto_lo notes.onto_lo.items

@@ -1,8 +1,9 @@
 -- The star of a node as it is found by turning round the node, spoke by spoke.
-use Rattle.std.specs.Prelude.{◌≡◌, ℕ, ◌<◌, ◌==◌, Bool, true, List, Contains, length, Option, Some, None, ◌⊎◌}
+use Rattle.std.specs.Prelude.{◌≡◌, ℕ, ◌<◌, ◌==◌, Bool, true, List, Contains, length, Option, Some, None}
 use Rattle.std.specs.List.{list_any}
 use Rattle.pf_model.specs.declared.Spoke.{Spoke}
 use Rattle.pf_model.specs.Rising.{IsRising}
+use Rattle.pf_model.specs.Fans.{AreBeside, IsOrderOf}
 use Rattle.pf_model.specs.Stars.{spoke_lt, is_one_fan}
 
 -- a spoke has this right
@@ -24,29 +25,25 @@ pub record ArePart (spokes found : List Spoke) : Type 0 where
   pub rise : IsRising spoke_lt found
   pub within : (s : Spoke) → Contains found s → Contains spokes s
 
--- found by turning left from the spoke on `start`: the spoke that begins where one of these ends is found, or begins at `next`
-pub record TurnsLeft (spokes found : List Spoke) (start next : ℕ) : Type 0 where
+-- these are some of the spokes, one at least. In some order they lie beside each other, from the right `first` to the left `last`
+pub record IsChain (spokes found : List Spoke) (first last : ℕ) : Type 0 where
   pub part : ArePart spokes found
-  pub after : (r s : Spoke) → Contains found r → Contains spokes s → s.right ≡ r.left → (has_right s.right found ≡ true) ⊎ (s.right ≡ next)
-  pub before : (r s : Spoke) → Contains found r → Contains spokes s → s.left ≡ r.right → (has_right s.right found ≡ true) ⊎ (r.right ≡ start)
-  pub begun : (s : Spoke) → Contains spokes s → s.right ≡ start → (has_right s.right found ≡ true) ⊎ (start ≡ next)
-  pub come : (start ≡ next) ⊎ ((r : Spoke) × Contains found r × (r.left ≡ next))
+  pub some : 0 < length found
+  pub order : List Spoke
+  pub orders : IsOrderOf order found
+  pub beside : AreBeside first order last
 
--- found by turning left from `start` and then right: the spoke that ends where one of these begins is found, or ends at `next`
-pub record TurnsRight (spokes found : List Spoke) (start next : ℕ) : Type 0 where
-  pub part : ArePart spokes found
-  pub after : (r s : Spoke) → Contains found r → Contains spokes s → s.right ≡ r.left → has_right s.right found ≡ true
-  pub before : (r s : Spoke) → Contains found r → Contains spokes s → s.left ≡ r.right → (has_right s.right found ≡ true) ⊎ (s.left ≡ next)
-  pub begun : (s : Spoke) → Contains spokes s → s.right ≡ next → has_right s.right found ≡ true
-  pub some_on : (s : Spoke) → Contains spokes s → s.right ≡ start → 0 < length found
-  pub some_before : (s : Spoke) → Contains spokes s → s.left ≡ start → (next ≡ start) ⊎ (0 < length found)
+-- the spoke that begins where they end is one of them
+pub record IsChainToLeft (spokes found : List Spoke) (first last : ℕ) : Type 0 where
+  pub chain : IsChain spokes found first last
+  pub after : (s : Spoke) → Contains spokes s → s.right ≡ last → has_right s.right found ≡ true
 
--- no spoke that meets one of these is missing, nor one that meets `start`
-pub record IsTurned (spokes found : List Spoke) (start : ℕ) : Type 0 where
-  pub part : ArePart spokes found
-  pub after : (r s : Spoke) → Contains found r → Contains spokes s → s.right ≡ r.left → has_right s.right found ≡ true
-  pub before : (r s : Spoke) → Contains found r → Contains spokes s → s.left ≡ r.right → has_right s.right found ≡ true
-  pub some : (s : Spoke) → Contains spokes s → (s.right ≡ start) ⊎ (s.left ≡ start) → 0 < length found
+-- so is the spoke that ends where they begin: none is missing that meets one of them
+pub record IsTurned (spokes found : List Spoke) : Type 0 where
+  pub first : ℕ
+  pub last : ℕ
+  pub left : IsChainToLeft spokes found first last
+  pub before : (s : Spoke) → Contains spokes s → s.left ≡ first → has_right s.right found ≡ true
 
 -- what is found of a node's spokes: all of them, where they are told to be one fan
 pub record IsFan (spokes : List Spoke) (is_fan : Bool) (found : List Spoke) : Type 0 where

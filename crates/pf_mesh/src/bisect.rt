@@ -12,6 +12,7 @@ ghost use Rattle.pf_model.specs.Conditions.{not_longest, bisect_clauses, first_f
 ghost use Rattle.pf_model.specs.Applied.{halves_of};
 ghost use Rattle.pf_mesh.specs.Exchange.{whole_of};
 ghost use Rattle.pf_mesh.specs.Flanks.{AreFlanks};
+ghost use Rattle.pf_mesh.specs.Lengths.{IsPlaced};
 ghost use Rattle.pf_mesh.specs.Mesh.{IsKept};
 ghost use Rattle.pf_mesh.specs.Operations.{IsChange};
 ghost use Rattle.pf_mesh.specs.Table.{AreInRange, Shows, side_value};
@@ -19,6 +20,7 @@ ghost use Rattle.pf_mesh.specs.Table.{AreInRange, Shows, side_value};
 use crate::change::Tris;
 use crate::conditions::edge_condition;
 use crate::flanks::Flanks;
+use crate::lengths::{Placed, least_between, longest_between};
 use crate::table::{EdgeTable, Left, turned};
 use pf_geom::{Point, len2, middle};
 use pf_model::{Band, Cond};
@@ -30,6 +32,17 @@ fn is_below_four(a: Point, b: Point, least: i64) -> bool
     ensures { result ≡ int_lt (len2_of a b) (pos 4 *ℤ least) }
 {
     i128::from(len2(a, b)) < 4 * i128::from(least)
+}
+
+// Whether a half of the edge would be shorter than its band allows.
+fn is_too_short(bands: &[Band], lo: Placed, hi: Placed) -> bool
+    requires lo { IsInRange lo.at }
+    requires hi { IsInRange hi.at }
+    ensures { (m : Undivided) → m.bands ≡ bands.now → IsPlaced m lo → IsPlaced m hi
+        → result ≡ int_lt (len2_at m lo.name hi.name) (pos 4 *ℤ min2_of m lo.name hi.name) }
+{
+    let least = least_between(bands, lo.at, hi.at);
+    is_below_four(lo.at, hi.at, least)
 }
 
 // The triangle of the side left of the edge from `p` to `q`, and its halves, cut at `n`.
@@ -61,26 +74,19 @@ fn bisect_change(n: u32, a: u32, b: u32, flanks: Flanks, gone: &mut Tris, new: &
 }
 
 impl EdgeTable {
-    // Whether a half of the edge would be shorter than its band allows.
-    fn is_too_short(&self, bands: &[Band], lo: u32, hi: u32) -> bool
-        requires { AreInRange self.now.nodes.items }
-        ensures { (m : Undivided) → Shows self.now.sides self.now.nodes.items m → m.bands ≡ bands.now
-            → result ≡ int_lt (len2_at m lo hi) (pos 4 *ℤ min2_of m lo hi) }
-    {
-        let least = self.least_length(bands, lo, hi);
-        is_below_four(self.place(lo), self.place(hi), least)
-    }
-
     // That the triangle on the left of the edge, which is the side's, has a longer one.
-    fn longer_on(&self, p: u32, q: u32, side: Option<Left>) -> Option<Cond>
-        requires { AreInRange self.now.nodes.items }
-        ensures { (m : Undivided) → Shows self.now.sides self.now.nodes.items m → result ≡ not_longest m p q (option_map side_value side) }
+    fn longer_on(&self, p: Placed, q: Placed, side: Option<Left>) -> Option<Cond>
+        requires in_range { AreInRange self.now.nodes.items }
+        requires p { IsInRange p.at }
+        requires q { IsInRange q.at }
+        ensures { (m : Undivided) → Shows self.now.sides self.now.nodes.items m → IsPlaced m p → IsPlaced m q
+            → result ≡ not_longest m p.name q.name (option_map side_value side) }
     {
         let Some(left) = side else {
             return None;
         };
-        let longest = self.longest(p, q, left.apex);
-        if longest.lo == p.min(q) && longest.hi == p.max(q) {
+        let longest = longest_between(p, q, self.placed(left.apex));
+        if longest.lo == p.name.min(q.name) && longest.hi == p.name.max(q.name) {
             return None;
         }
         Some(Cond::NotLongest {
@@ -104,16 +110,17 @@ impl EdgeTable {
         ensures { (m : Undivided) → Shows self.now.sides self.now.nodes.items m → m.bands ≡ bands.now → AreFlanks m.tris lo hi flanks
             → result ≡ first_of (bisect_clauses m lo hi) }
     {
-        if self.is_too_short(bands, lo, hi) {
+        let (at_lo, at_hi) = (self.placed(lo), self.placed(hi));
+        if is_too_short(bands, at_lo, at_hi) {
             return Some(Cond::TooShort { a: lo, b: hi });
         }
-        if let Some(cond) = self.longer_on(lo, hi, flanks.left) {
+        if let Some(cond) = self.longer_on(at_lo, at_hi, flanks.left) {
             return Some(cond);
         }
-        if let Some(cond) = self.longer_on(hi, lo, flanks.right) {
+        if let Some(cond) = self.longer_on(at_hi, at_lo, flanks.right) {
             return Some(cond);
         }
-        if self.middle(lo, hi).is_none() {
+        if middle(at_lo.at, at_hi.at).is_none() {
             return Some(Cond::OddMidpoint);
         }
         None

@@ -1,25 +1,28 @@
 //! The first condition that a contraction fails, by the edge table, and the triangles that it exchanges.
-ghost use Rattle.std.specs.Prelude.{◌≡◌, ℕ, Bool, ◌≤◌, ◌||◌, ◌&&◌, ◌==◌, not, pos, length, List, min, Option, None};
+ghost use Rattle.std.specs.Prelude.{◌≡◌, ℕ, Bool, false, ◌≤◌, ◌||◌, ◌&&◌, ◌==◌, not, pos, length, List, min, Option, None, true, is_some, unwrap_or};
 ghost use Rattle.std.specs.Option.{option_map};
 ghost use Rattle.std.specs.Ordering.{int_eq};
 ghost use Rattle.pf_geom.specs.Plane.{IsInRange, orient_of};
 ghost use Rattle.pf_model.specs.Clauses.{first_of};
 ghost use Rattle.pf_model.specs.declared.Op.TheVariants.{Contract};
-ghost use Rattle.pf_model.specs.Mesh.{Undivided, side_of, turn_at};
+ghost use Rattle.pf_model.specs.Mesh.{Undivided, side_of, turn_at, is_edge};
 ghost use Rattle.pf_model.specs.Conforming.{IsConforming};
 ghost use Rattle.pf_model.specs.Lengths.{is_long};
 ghost use Rattle.pf_model.specs.Stars.{spokes_of, is_neighbour};
 ghost use Rattle.pf_model.specs.Conditions.{is_apex, is_positive, neighbours, lesser, least_that, inverted, first_failing};
-ghost use Rattle.pf_mesh.specs.Table.{side_value, AreInRange, Shows};
+ghost use Rattle.pf_mesh.specs.Table.{place_or_origin, side_value, AreInRange, Shows};
 ghost use Rattle.pf_mesh.specs.Flanks.{AreFlanks};
 ghost use Rattle.pf_mesh.specs.Mesh.{IsKept};
 ghost use Rattle.pf_mesh.specs.Operations.{IsChange};
+ghost use Rattle.pf_mesh.specs.Ring.{AreRings};
+ghost use Rattle.pf_model.specs.declared.Spoke.{Spoke};
 ghost use Rattle.pf_model.specs.declared.Tri.{Tri};
-ghost use Rattle.pf_mesh.specs.Contract.{is_corner, is_off_boundary, is_link_node, is_too_long, star_clauses, star_tris, moved_tris, is_without};
+ghost use Rattle.pf_mesh.specs.Contract.{AreAround, IsRim, IsStar, is_off_boundary, is_link_node, is_too_long, star_clauses, star_tris, moved_tris, is_without};
 
 use crate::change::Tris;
 use crate::conditions::{edge_condition, turns_left};
 use crate::flanks::Flanks;
+use crate::ring::{Ring, are_beside};
 use crate::scratch::{Names, Scratch, StarLists};
 use crate::star::{first_right, is_right, last_left};
 use crate::table::{EdgeTable, Left, turned};
@@ -63,18 +66,29 @@ fn is_flat(a: Point, b: Point, c: Point) -> bool
     orient(a, b, c) == 0
 }
 
-// Whether the star is a path of which the node is no end.
-fn is_star_off(v: u32, star: &[Spoke]) -> bool
-    ensures { result ≡ is_off_boundary v star.now }
-{
-    match first_right(star) {
-        Some(first) => !(first == v || last_left(star).unwrap_or(0) == v),
-        None => false,
+/// What a star says by itself of a contraction of its node: where its path begins and ends, and whether it
+/// bends at the node. A star that is a cycle has no path.
+#[derive(Clone, Copy, Debug, PartialEq, Eq)]
+pub struct Rim {
+    pub first: Option<u32>,
+    pub last: u32,
+    pub bent: bool,
+}
+
+impl Rim {
+    // Whether the star is a path of which the node is no end.
+    fn is_off(self, v: u32) -> bool
+        ensures { (m : Undivided) (u : ℕ) (us : List Spoke) → IsRim m u us self → result ≡ is_off_boundary v us }
+    {
+        match self.first {
+            Some(first) => !(first == v || self.last == v),
+            None => false,
+        }
     }
 }
 
-// The neighbours of the star's node, each once, in place of what the list held.
-fn names_around(star: &[Spoke], names: &mut Names)
+/// The neighbours of the star's node, each once, in place of what the list held.
+pub fn names_around(star: &[Spoke], names: &mut Names)
     requires { length star.now ≤ 60 }
     ensures { (p : ℕ → Bool) → least_that p names.new.items ≡ least_that p (neighbours star.now) }
 {
@@ -124,65 +138,81 @@ fn triangles_moved(v: u32, star: &[Spoke], tris: &mut Tris)
 }
 
 impl EdgeTable {
-    // Whether the star's path bends at the node.
-    fn is_bent(&self, u: u32, star: &[Spoke]) -> bool
+    // Whether the star's path, with these ends, bends at the node.
+    fn is_bent(&self, u: u32, first: Option<u32>, last: u32) -> bool
         requires { AreInRange self.now.nodes.items }
-        ensures { (m : Undivided) → Shows self.now.sides self.now.nodes.items m → result ≡ is_corner m u star.now }
+        ensures { (m : Undivided) → Shows self.now.sides self.now.nodes.items m
+            → result ≡ (is_some first && not (int_eq (turn_at m (unwrap_or first 0) u last) (pos 0))) }
     {
-        match first_right(star) {
-            Some(first) => {
-                let last = last_left(star).unwrap_or(0);
-                !is_flat(self.place(first), self.place(u), self.place(last))
-            }
+        match first {
+            Some(first) => !is_flat(self.place(first), self.place(u), self.place(last)),
             None => false,
         }
     }
 
-    // Whether the node is a neighbour of `v`.
+    // Whether the node is a neighbour of `v`, by the table.
     fn is_beside(&self, x: u32, v: u32) -> bool
         ensures { (m : Undivided) → IsConforming m → Shows self.now.sides self.now.nodes.items m → result ≡ is_neighbour x (spokes_of m v) }
     {
         x != v && self.is_edge(x, v)
     }
 
+    // Whether the node is a neighbour of `v`, by what is noted, and by the table where that isn't.
+    fn is_near(&self, rings: &[Option<Ring>], x: u32, v: u32) -> bool
+        ensures { (m : Undivided) → IsConforming m → Shows self.now.sides self.now.nodes.items m → AreRings m rings.now
+            → result ≡ is_neighbour x (spokes_of m v) }
+    {
+        match are_beside(rings, x, v) {
+            Some(told) => told,
+            None => self.is_beside(x, v),
+        }
+    }
+
     // Whether the node is a neighbour of `v`, and no apex of the edge to `v`, which takes no look-up.
-    fn is_link(&self, v: u32, x: u32, flanks: Flanks) -> bool
-        ensures { (m : Undivided) (u : ℕ) → IsConforming m → Shows self.now.sides self.now.nodes.items m → AreFlanks m.tris u v flanks
+    fn is_link(&self, rings: &[Option<Ring>], v: u32, x: u32, flanks: Flanks) -> bool
+        ensures { (m : Undivided) (u : ℕ) → IsConforming m → Shows self.now.sides self.now.nodes.items m → AreRings m rings.now → AreFlanks m.tris u v flanks
             → result ≡ is_link_node m u v (spokes_of m v) x }
     {
-        !is_an_apex(flanks, x) && self.is_beside(x, v)
+        !is_an_apex(flanks, x) && self.is_near(rings, x, v)
     }
 
     // The least of these names that is a neighbour of `v`, and no apex of the edge to `v`.
-    fn least_link(&self, v: u32, flanks: Flanks, names: &[u32]) -> Option<u32>
-        ensures { (m : Undivided) (u : ℕ) → IsConforming m → Shows self.now.sides self.now.nodes.items m → AreFlanks m.tris u v flanks
+    fn least_link(
+        &self,
+        rings: &[Option<Ring>],
+        v: u32,
+        flanks: Flanks,
+        names: &[u32],
+    ) -> Option<u32>
+        ensures { (m : Undivided) (u : ℕ) → IsConforming m → Shows self.now.sides self.now.nodes.items m → AreRings m rings.now → AreFlanks m.tris u v flanks
             → result ≡ least_that (is_link_node m u v (spokes_of m v)) names.now }
     {
         let mut least = None;
         for x in names {
-            if self.is_link(v, *x, flanks) {
+            if self.is_link(rings, v, *x, flanks) {
                 least = lesser_of(least, *x);
             }
         }
         least
     }
 
-    // Whether the triangle of a spoke would turn over with `v` in the node's place.
-    fn is_inverted(&self, v: u32, s: &Spoke) -> bool
-        requires { AreInRange self.now.nodes.items }
-        ensures { (m : Undivided) → Shows self.now.sides self.now.nodes.items m → result ≡ (is_without v s.now && not (is_positive (turn_at m v s.now.right s.now.left))) }
+    // Whether the triangle of a spoke would turn over with `v`, which stands there, in the node's place.
+    fn is_inverted(&self, v: u32, at: Point, s: &Spoke) -> bool
+        requires nodes { AreInRange self.now.nodes.items }
+        requires point { IsInRange at }
+        ensures { (m : Undivided) → Shows self.now.sides self.now.nodes.items m → at ≡ place_or_origin self.now.nodes.items v → result ≡ (is_without v s.now && not (is_positive (turn_at m v s.now.right s.now.left))) }
     {
-        is_spoke_without(s, v)
-            && !turns_left(self.place(v), self.place(s.right), self.place(s.left))
+        is_spoke_without(s, v) && !turns_left(at, self.place(s.right), self.place(s.left))
     }
 
-    // The first triangle of the star that would turn over.
-    fn first_inverted(&self, v: u32, star: &[Spoke]) -> Option<Cond>
-        requires { AreInRange self.now.nodes.items }
-        ensures { (m : Undivided) → Shows self.now.sides self.now.nodes.items m → result ≡ inverted m v star.now }
+    // The first triangle of the star that would turn over with `v`, which stands there.
+    fn first_inverted(&self, v: u32, at: Point, star: &[Spoke]) -> Option<Cond>
+        requires nodes { AreInRange self.now.nodes.items }
+        requires point { IsInRange at }
+        ensures { (m : Undivided) → Shows self.now.sides self.now.nodes.items m → at ≡ place_or_origin self.now.nodes.items v → result ≡ inverted m v star.now }
     {
         for s in star {
-            if self.is_inverted(v, s) {
+            if self.is_inverted(v, at, s) {
                 return Some(Cond::Inverts {
                     x: s.right,
                     y: s.left,
@@ -192,26 +222,83 @@ impl EdgeTable {
         None
     }
 
-    // Whether the edge from `v` to the node would be new, and is too long.
-    fn is_new_long(&self, bands: &[Band], v: u32, x: u32) -> bool
+    // Whether the edge from `v` to the node would be new, and is too long, where no neighbour of `v` but the
+    // apices of the edge to `v` is one of the node that goes.
+    fn is_new_long(&self, bands: &[Band], v: u32, x: u32, flanks: Flanks) -> bool
         requires { AreInRange self.now.nodes.items }
-        ensures { (m : Undivided) → IsConforming m → Shows self.now.sides self.now.nodes.items m → m.bands ≡ bands.now → result ≡ is_too_long m v (spokes_of m v) x }
+        ensures { (m : Undivided) (u : ℕ) → IsConforming m → Shows self.now.sides self.now.nodes.items m → m.bands ≡ bands.now → AreFlanks m.tris u v flanks
+            → is_link_node m u v (spokes_of m v) x ≡ false → result ≡ is_too_long m v (spokes_of m v) x }
     {
-        x != v && self.is_long(bands, v, x) && !self.is_beside(x, v)
+        if x == v {
+            return false;
+        }
+        if is_an_apex(flanks, x) {
+            return false;
+        }
+        self.is_long(bands, v, x)
     }
 
-    // The least of these names to which a new edge from `v` would be too long.
-    fn least_long(&self, bands: &[Band], v: u32, names: &[u32]) -> Option<u32>
+    // The least of these names to which a new edge from `v` would be too long, where none of them is a
+    // neighbour of `v` but the apices of the edge to `v`.
+    fn least_long(&self, bands: &[Band], v: u32, flanks: Flanks, names: &[u32]) -> Option<u32>
         requires { AreInRange self.now.nodes.items }
-        ensures { (m : Undivided) → IsConforming m → Shows self.now.sides self.now.nodes.items m → m.bands ≡ bands.now → result ≡ least_that (is_too_long m v (spokes_of m v)) names.now }
+        ensures { (m : Undivided) (u : ℕ) → IsConforming m → Shows self.now.sides self.now.nodes.items m → m.bands ≡ bands.now → AreFlanks m.tris u v flanks
+            → least_that (is_link_node m u v (spokes_of m v)) names.now ≡ None → result ≡ least_that (is_too_long m v (spokes_of m v)) names.now }
     {
         let mut least = None;
         for x in names {
-            if self.is_new_long(bands, v, *x) {
+            if self.is_new_long(bands, v, *x, flanks) {
                 least = lesser_of(least, *x);
             }
         }
         least
+    }
+
+    /// What the star of `u` says by itself.
+    pub fn rim(&self, u: u32, star: &[Spoke]) -> Rim
+        requires { AreInRange self.now.nodes.items }
+        ensures { (m : Undivided) → Shows self.now.sides self.now.nodes.items m → IsRim m u star.now result }
+    {
+        let first = first_right(star);
+        let last = last_left(star).unwrap_or(0);
+        let bent = self.is_bent(u, first, last);
+        Rim { first, last, bent }
+    }
+
+    /// The conditions on the star of the node that goes, once what it says by itself is at hand.
+    pub fn rim_condition(
+        &self,
+        bands: &[Band],
+        rings: &[Option<Ring>],
+        v: u32,
+        flanks: Flanks,
+        rim: Rim,
+        star: &[Spoke],
+        names: &[u32],
+    ) -> Option<Cond>
+        requires in_range { AreInRange self.now.nodes.items }
+        ensures { (m : Undivided) (u : ℕ) → IsConforming m → Shows self.now.sides self.now.nodes.items m → m.bands ≡ bands.now → AreFlanks m.tris u v flanks
+            → AreRings m rings.now → IsRim m u star.now rim → AreAround star.now names.now → result ≡ first_of (star_clauses m u v star.now (spokes_of m v)) }
+    {
+        if rim.bent {
+            return Some(Cond::Corner);
+        }
+        if rim.is_off(v) {
+            return Some(Cond::OffBoundary);
+        }
+        if let Some(x) = self.least_link(rings, v, flanks, names) {
+            return Some(Cond::LinkNode { x });
+        }
+        if let Some(cond) = self.first_inverted(v, self.place(v), star) {
+            return Some(cond);
+        }
+        match self.least_long(bands, v, flanks, names) {
+            Some(x) => Some(Cond::TooLong {
+                a: v.min(x),
+                b: v.max(x),
+            }),
+            None => None,
+        }
     }
 
     // The conditions on the star of the node that goes.
@@ -229,31 +316,24 @@ impl EdgeTable {
         ensures { (m : Undivided) → IsConforming m → Shows self.now.sides self.now.nodes.items m → m.bands ≡ bands.now → AreFlanks m.tris u v flanks
             → result ≡ first_of (star_clauses m u v star.now (spokes_of m v)) }
     {
-        if self.is_bent(u, star) {
-            return Some(Cond::Corner);
-        }
-        if is_star_off(v, star) {
-            return Some(Cond::OffBoundary);
-        }
         names_around(star, names);
-        if let Some(x) = self.least_link(v, flanks, names.as_slice()) {
-            return Some(Cond::LinkNode { x });
-        }
-        if let Some(cond) = self.first_inverted(v, star) {
-            return Some(cond);
-        }
-        match self.least_long(bands, v, names.as_slice()) {
-            Some(x) => Some(Cond::TooLong {
-                a: v.min(x),
-                b: v.max(x),
-            }),
-            None => None,
-        }
+        let rim = self.rim(u, star);
+        self.rim_condition(bands, &[], v, flanks, rim, star, names.as_slice())
     }
 
-    // The first condition that the contraction of `u` onto `v` fails, or `None` where it passes. Then the
-    // lists have the star of `u`. What they held doesn't matter.
-    fn contract_star(
+    /// Whether `u` has few enough triangles, which are one cycle or one path. Then the lists have its star,
+    /// found by turning round `u` from its edge to `v`. The triangles at that edge are at hand. What the lists
+    /// held doesn't matter.
+    pub fn find_star(&self, u: u32, v: u32, flanks: Flanks, lists: &mut StarLists) -> bool
+        ensures { (m : Undivided) → IsConforming m → Shows self.now.sides self.now.nodes.items m → AreFlanks m.tris u v flanks
+            → is_edge m.tris u v ≡ true → result ≡ true → IsStar m u lists.new.star.items }
+    {
+        self.triangles(u) <= MOST_TRIANGLES && self.find_fan(u, v, flanks, &mut lists.star)
+    }
+
+    /// The first condition that the contraction of `u` onto `v` fails, or `None` where it passes. Then the
+    /// lists have the star of `u`. What they held doesn't matter.
+    pub fn contract_star(
         &self,
         bands: &[Band],
         chunk: u16,
@@ -274,7 +354,7 @@ impl EdgeTable {
         if self.triangles(u) > MOST_TRIANGLES {
             return Some(Cond::TooWide);
         }
-        if !self.find_fan(u, v, flanks.left, &mut lists.star, &mut lists.left) {
+        if !self.find_fan(u, v, flanks, &mut lists.star) {
             return Some(Cond::Pinched);
         }
         self.star_condition(bands, u, v, flanks, &lists.star, &mut lists.names)

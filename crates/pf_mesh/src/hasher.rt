@@ -28,7 +28,8 @@ impl Hasher for EdgeHasher {
         self.place
     }
 
-    // The last eight bytes that are written are the place, the lowest first.
+    // The first eight bytes of the last write are the place, the lowest first, and it is 0 where the write has
+    // fewer.
     #[inline(always)]
     fn write(&mut self, bytes: &[u8]) {
         self.place = if bytes.len() < 8 {

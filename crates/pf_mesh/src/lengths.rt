@@ -1,13 +1,12 @@
 //! The band of an edge, and the order of edges by length.
-ghost use Rattle.std.specs.Prelude.{◌≡◌, pos, ◌+ℤ◌, ◌*ℤ◌, cond, ◌&&◌, ◌||◌, ◌==◌, nat_lt, int_lt, int_le, find, min, max};
+ghost use Rattle.std.specs.Prelude.{◌≡◌, ℕ, pos, ◌+ℤ◌, ◌*ℤ◌, cond, ◌&&◌, ◌||◌, ◌==◌, nat_lt, int_lt, int_le, find, min, max};
 ghost use Rattle.std.specs.Ordering.{int_eq};
 ghost use Rattle.pf_geom.specs.Plane.{IsInRange, len2_of};
-ghost use Rattle.pf_model.specs.Mesh.{Undivided};
+ghost use Rattle.pf_model.specs.Mesh.{Undivided, place_of};
 ghost use Rattle.pf_model.specs.Lengths.{edge_of, holds_middle, min2_of, is_long, is_longer, longer_of, longest_of};
-ghost use Rattle.pf_mesh.specs.Table.{AreInRange, Shows, place_or_origin};
-ghost use Rattle.pf_mesh.specs.Lengths.{span_value};
+ghost use Rattle.pf_mesh.specs.Table.{AreInRange, Shows};
+ghost use Rattle.pf_mesh.specs.Lengths.{IsMeasured, IsPlaced, span_value};
 
-use crate::conditions::is_shorter;
 use crate::table::EdgeTable;
 use pf_geom::{Point, len2};
 use pf_model::Band;
@@ -17,6 +16,20 @@ use pf_model::Band;
 pub struct Span {
     pub lo: u32,
     pub hi: u32,
+}
+
+/// A node by its name, and where it stands.
+#[derive(Clone, Copy, Debug, PartialEq, Eq)]
+pub struct Placed {
+    pub name: u32,
+    pub at: Point,
+}
+
+// An edge with its squared length.
+#[derive(Clone, Copy, Debug, PartialEq, Eq)]
+struct Measured {
+    edge: Span,
+    len2: i64,
 }
 
 /// The edge between two names.
@@ -76,22 +89,57 @@ fn is_above(row: Band, a: Point, b: Point) -> bool
     row.max2 < len2(a, b)
 }
 
-// Whether the first two points are as far apart as the others.
-fn is_as_long(a: Point, b: Point, c: Point, d: Point) -> bool
-    requires a { IsInRange a }
-    requires b { IsInRange b }
-    requires c { IsInRange c }
-    requires d { IsInRange d }
-    ensures { result ≡ int_eq (len2_of a b) (len2_of c d) }
-{
-    len2(a, b) == len2(c, d)
-}
-
 // Whether the first edge stands before the second, by names.
 fn is_named_before(e: Span, f: Span) -> bool
     ensures { result ≡ (nat_lt e.lo f.lo || (e.lo == f.lo && nat_lt e.hi f.hi)) }
 {
     e.lo < f.lo || (e.lo == f.lo && e.hi < f.hi)
+}
+
+/// The squared length that an edge between two points is to have at least, and 0 where no band holds its
+/// middle.
+pub fn least_between(bands: &[Band], at_a: Point, at_b: Point) -> i64
+    ensures { (m : Undivided) (a b : ℕ) → m.bands ≡ bands.now → at_a ≡ place_of m a → at_b ≡ place_of m b → result ≡ min2_of m a b }
+{
+    match band_at(bands, at_a, at_b) {
+        Some(row) => row.min2,
+        None => 0,
+    }
+}
+
+// The edge between two nodes.
+fn measure(a: Placed, b: Placed) -> Measured
+    requires a { IsInRange a.at }
+    requires b { IsInRange b.at }
+    ensures edge { span_value result.edge ≡ edge_of a.name b.name }
+    ensures len2 { (m : Undivided) → IsPlaced m a → IsPlaced m b → IsMeasured m result }
+{
+    Measured {
+        edge: span_of(a.name, b.name),
+        len2: len2(a.at, b.at),
+    }
+}
+
+// Whether two edges have the same length.
+fn is_as_long(e: Measured, f: Measured) -> bool
+    ensures { result ≡ int_eq e.len2 f.len2 }
+{
+    e.len2 == f.len2
+}
+
+// Whether the second edge is longer: by length, then lower name, then higher name.
+fn is_second_longer(e: Measured, f: Measured) -> bool
+    ensures { (m : Undivided) → IsMeasured m e → IsMeasured m f → result ≡ is_longer m (span_value e.edge) (span_value f.edge) }
+{
+    e.len2 < f.len2 || (is_as_long(e, f) && is_named_before(e.edge, f.edge))
+}
+
+// The longer of two edges.
+fn longer(e: Measured, f: Measured) -> Measured
+    ensures len2 { (m : Undivided) → IsMeasured m e → IsMeasured m f → IsMeasured m result }
+    ensures edge { (m : Undivided) → IsMeasured m e → IsMeasured m f → span_value result.edge ≡ longer_of m (span_value e.edge) (span_value f.edge) }
+{
+    if is_second_longer(e, f) { f } else { e }
 }
 
 /// The first band that holds the middle of the two points.
@@ -106,13 +154,28 @@ pub fn band_at(bands: &[Band], a: Point, b: Point) -> Option<Band>
     None
 }
 
+/// The longest edge of the triangle `p`, `q`, `z`.
+pub fn longest_between(p: Placed, q: Placed, z: Placed) -> Span
+    requires p { IsInRange p.at }
+    requires q { IsInRange q.at }
+    requires z { IsInRange z.at }
+    ensures { (m : Undivided) → IsPlaced m p → IsPlaced m q → IsPlaced m z → span_value result ≡ longest_of m p.name q.name z.name }
+{
+    longer(longer(measure(p, q), measure(q, z)), measure(z, p)).edge
+}
+
 impl EdgeTable {
-    // The band of an edge.
-    fn band(&self, bands: &[Band], a: u32, b: u32) -> Option<Band>
+    /// A node, and where it stands: at the origin, where it isn't live.
+    pub fn placed(&self, n: u32) -> Placed
         requires { AreInRange self.now.nodes.items }
-        ensures { result ≡ find (holds_middle (place_or_origin self.now.nodes.items a) (place_or_origin self.now.nodes.items b)) bands.now }
+        ensures name { result.name ≡ n }
+        ensures in_range { IsInRange result.at }
+        ensures at { (m : Undivided) → Shows self.now.sides self.now.nodes.items m → IsPlaced m result }
     {
-        band_at(bands, self.place(a), self.place(b))
+        Placed {
+            name: n,
+            at: self.place(n),
+        }
     }
 
     /// The squared length that an edge is to have at least, and 0 where no band holds its middle.
@@ -120,10 +183,7 @@ impl EdgeTable {
         requires { AreInRange self.now.nodes.items }
         ensures { (m : Undivided) → Shows self.now.sides self.now.nodes.items m → m.bands ≡ bands.now → result ≡ min2_of m a b }
     {
-        match self.band(bands, a, b) {
-            Some(row) => row.min2,
-            None => 0,
-        }
+        least_between(bands, self.place(a), self.place(b))
     }
 
     /// Whether an edge is longer than its band allows.
@@ -131,28 +191,11 @@ impl EdgeTable {
         requires { AreInRange self.now.nodes.items }
         ensures { (m : Undivided) → Shows self.now.sides self.now.nodes.items m → m.bands ≡ bands.now → result ≡ is_long m a b }
     {
-        match self.band(bands, a, b) {
-            Some(row) => is_above(row, self.place(a), self.place(b)),
+        let (at_a, at_b) = (self.place(a), self.place(b));
+        match band_at(bands, at_a, at_b) {
+            Some(row) => is_above(row, at_a, at_b),
             None => false,
         }
-    }
-
-    // Whether the second edge is longer: by length, then lower name, then higher name.
-    fn is_second_longer(&self, e: Span, f: Span) -> bool
-        requires { AreInRange self.now.nodes.items }
-        ensures { (m : Undivided) → Shows self.now.sides self.now.nodes.items m → result ≡ is_longer m (span_value e) (span_value f) }
-    {
-        let (a, b) = (self.place(e.lo), self.place(e.hi));
-        let (c, d) = (self.place(f.lo), self.place(f.hi));
-        is_shorter(a, b, c, d) || (is_as_long(a, b, c, d) && is_named_before(e, f))
-    }
-
-    // The longer of two edges.
-    fn longer(&self, e: Span, f: Span) -> Span
-        requires { AreInRange self.now.nodes.items }
-        ensures { (m : Undivided) → Shows self.now.sides self.now.nodes.items m → span_value result ≡ longer_of m (span_value e) (span_value f) }
-    {
-        if self.is_second_longer(e, f) { f } else { e }
     }
 
     /// The longest edge of the triangle `p`, `q`, `z`.
@@ -160,7 +203,6 @@ impl EdgeTable {
         requires { AreInRange self.now.nodes.items }
         ensures { (m : Undivided) → Shows self.now.sides self.now.nodes.items m → span_value result ≡ longest_of m p q z }
     {
-        let longer = self.longer(span_of(p, q), span_of(q, z));
-        self.longer(longer, span_of(z, p))
+        longest_between(self.placed(p), self.placed(q), self.placed(z))
     }
 }

@@ -17,6 +17,7 @@ mod operations;
 mod parts;
 mod relist;
 mod rest;
+mod ring;
 mod run;
 mod scratch;
 mod sites;

@@ -11,6 +11,7 @@ ghost use Rattle.pf_mesh.specs.Mesh.{IsKept};
 ghost use Rattle.pf_mesh.specs.Operations.{CanApply, IsChange, ShowsApplicable, HasPlaces};
 
 use crate::change::Change;
+use crate::mesh::ends;
 use crate::scratch::Scratch;
 use crate::table::EdgeTable;
 use pf_geom::NoMemory;
@@ -102,6 +103,9 @@ impl EdgeTable {
         ensures sides { spare self.old.sides ≤ spare self.new.sides + 3 * length change.now.new.items }
     {
         self.make_node(n, op);
-        self.exchange(&change.gone, &change.new);
+        let (u, v) = ends(op);
+        let _ = change.gone.len();
+        let _ = change.new.len();
+        self.exchange(u, v, &change.gone, &change.new);
     }
 }

@@ -1,13 +1,12 @@
 //! The rest list: which edges are still too long or too short, what forbids their change, and which flips
 //! would pass.
-ghost use Rattle.std.specs.Prelude.{◌≡◌, ◌<◌, ◌++◌, ◌∷◌, [], All, OnOk, IfOk, Some, true, flat_map, int_lt, is_none, length, map, slice_get};
-ghost use Rattle.pf_geom.specs.Plane.{IsInRange, len2_of};
+ghost use Rattle.std.specs.Prelude.{◌≡◌, ◌<◌, ◌++◌, ◌∷◌, [], All, OnOk, IfOk, Some, true, flat_map, is_none, length, map, slice_get};
 ghost use Rattle.pf_model.specs.Mesh.{Undivided};
 ghost use Rattle.pf_model.specs.declared.Op.TheVariants.{Flip};
 ghost use Rattle.pf_model.specs.Conforming.{IsConforming};
 ghost use Rattle.pf_model.specs.Conditions.{first_failing};
 ghost use Rattle.pf_model.specs.Lengths.{is_long};
-ghost use Rattle.pf_model.specs.Wishes.{acting_chunk, is_short, long_lines, short_lines, flip_lines, rest_of, terminal_of};
+ghost use Rattle.pf_model.specs.Wishes.{acting_chunk, long_lines, short_lines, flip_lines, rest_of, terminal_of};
 ghost use Rattle.pf_mesh.specs.Lengths.{span_value};
 ghost use Rattle.pf_mesh.specs.declared.rest.edges.Sided.{Sided};
 ghost use Rattle.pf_mesh.specs.Rest.{AreAtEnds, IsEnd, IsListed, IsSided, listed, sided_edge};
@@ -15,24 +14,19 @@ ghost use Rattle.pf_mesh.specs.Table.{AreInRange, Shows};
 
 mod edges;
 mod known;
+mod short;
+mod told;
 mod walks;
 
 use crate::lengths::Span;
 use crate::rest::edges::{Edges, Sided};
 use crate::rest::known::End;
+use crate::rest::told::Notes;
+use crate::scratch::StarLists;
 use crate::table::EdgeTable;
-use pf_geom::{NoMemory, Point, len2};
-use pf_model::{Band, Op, RestLine, Tri};
+use pf_geom::NoMemory;
+use pf_model::{Band, RestLine, Tri};
 use std::alloc::Global;
-
-// Whether the squared distance of two points is below the least squared length.
-fn is_below(a: Point, b: Point, least: i64) -> bool
-    requires a { IsInRange a }
-    requires b { IsInRange b }
-    ensures { result ≡ int_lt (len2_of a b) least }
-{
-    len2(a, b) < least
-}
 
 // Appends a line.
 fn push_line(lines: &mut Vec<RestLine>, line: Option<RestLine>) -> Result<(), NoMemory>
@@ -72,34 +66,6 @@ impl EdgeTable {
                 None => 0,
             },
         }
-    }
-
-    // Whether an edge is shorter than its band allows.
-    fn is_short(&self, bands: &[Band], e: Span) -> bool
-        requires { AreInRange self.now.nodes.items }
-        ensures { (m : Undivided) → Shows self.now.sides self.now.nodes.items m → m.bands ≡ bands.now → result ≡ is_short m e.lo e.hi }
-    {
-        let least = self.least_length(bands, e.lo, e.hi);
-        is_below(self.place(e.lo), self.place(e.hi), least)
-    }
-
-    // The line of a short edge.
-    fn short_line(&self, bands: &[Band], e: Sided) -> Option<RestLine>
-        requires { AreInRange self.now.nodes.items }
-        ensures { (m : Undivided) → IsConforming m → Shows self.now.sides self.now.nodes.items m → m.bands ≡ bands.now → IsSided self.now.sides e
-            → listed result ≡ short_lines m (sided_edge e) }
-    {
-        let (lo, hi) = (e.span.lo, e.span.hi);
-        if !self.is_short(bands, e.span) {
-            return None;
-        }
-        let chunk = self.acting_chunk(e);
-        Some(RestLine::Short {
-            a: lo,
-            b: hi,
-            onto_b: self.condition(bands, chunk, Op::Contract { u: lo, v: hi }),
-            onto_a: self.condition(bands, chunk, Op::Contract { u: hi, v: lo }),
-        })
     }
 
     // Whether an edge's flip passes. Its acting chunk owns a triangle at it, so the conditions of a flip alone
@@ -180,17 +146,20 @@ impl EdgeTable {
     // Appends the lines of the short edges.
     fn push_short(
         &self,
+        alloc: Global,
         lines: &mut Vec<RestLine>,
         bands: &[Band],
-        edges: &[Sided],
+        edges: &Edges,
     ) -> Result<(), NoMemory>
         requires in_range { AreInRange self.now.nodes.items }
-        requires listed { All (IsListed self.now.sides) edges.now }
+        requires listed { All (IsListed self.now.sides) edges.now.list.items }
         ensures { OnOk result ((m : Undivided) → IsConforming m → Shows self.now.sides self.now.nodes.items m → m.bands ≡ bands.now
-            → lines.new.items ≡ lines.old.items ++ flat_map (short_lines m) (map sided_edge edges.now)) }
+            → lines.new.items ≡ lines.old.items ++ flat_map (short_lines m) (map sided_edge edges.now.list.items)) }
     {
-        for e in edges {
-            push_line(lines, self.short_line(bands, *e))?;
+        let mut notes = Notes::new(alloc);
+        let mut lists = StarLists::new();
+        for place in 0..edges.list.len() {
+            self.push_short_at(lines, bands, edges, &mut notes, &mut lists, place)?;
         }
         Ok(())
     }
@@ -222,7 +191,7 @@ impl EdgeTable {
         let edges = self.edges(alloc, tris)?;
         let mut lines = Vec::new(alloc);
         self.push_long(alloc, &mut lines, bands, &edges)?;
-        self.push_short(&mut lines, bands, &edges.list)?;
+        self.push_short(alloc, &mut lines, bands, &edges)?;
         self.push_flips(&mut lines, &edges.list)?;
         Ok(lines)
     }

@@ -11,8 +11,6 @@ pub type Names = ArrayVec<u32, 120>;
 pub struct StarLists {
     /// The star of the node.
     pub star: Spokes,
-    /// The triangles of the star that a run round the node has still to pass.
-    pub left: Spokes,
     /// The neighbours of the node.
     pub names: Names,
 }
@@ -22,7 +20,6 @@ impl StarLists {
     pub fn new() -> StarLists {
         StarLists {
             star: Spokes::new(),
-            left: Spokes::new(),
             names: Names::new(),
         }
     }

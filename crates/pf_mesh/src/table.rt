@@ -1,5 +1,5 @@
 //! The edge table: which triangle stands left of each directed edge, and the nodes by their names.
-ghost use Rattle.std.specs.Prelude.{◌≡◌, ℕ, ◌+◌, ◌-◌, ◌*◌, ◌^◌, ◌<◌, ◌≤◌, ◌≢◌, ◌&&◌, ◌==◌, cond, List, Contains, All, Option, Some, None, IsSome, length, map, slice_index_or, slice_set, vec_len, vec_capacity, is_some, ◌||◌, OnOk, IfOk};
+ghost use Rattle.std.specs.Prelude.{◌≡◌, ℕ, ◌+◌, ◌-◌, ◌*◌, ◌^◌, ◌<◌, ◌≤◌, ◌≢◌, ◌&&◌, ◌==◌, cond, List, Contains, All, Option, Some, None, IsSome, IsTrue, Bool, true, false, ◌⊎◌, length, map, slice_index_or, slice_set, vec_len, vec_capacity, is_some, ◌||◌, OnOk, IfOk};
 ghost use Rattle.std.specs.Hash as fed;
 ghost use Rattle.std.specs.Cmp.Rules.{hashing};
 ghost use Rattle.std.proofs.Common.{rules};
@@ -15,7 +15,7 @@ ghost use Rattle.pf_mesh.specs.BuildSteps.{IsEmptyTable};
 ghost use Rattle.pf_mesh.specs.Hasher.{place_of_edge};
 ghost use Rattle.pf_mesh.specs.Exchange.{IsTurned, SharesNoEdge, CanExchange, exchanged};
 ghost use Rattle.pf_mesh.specs.Table.{side_at, side_value, number_at, site_at, place_at, triangles_at, place_or_origin, AreInRange, IsWithin, HasSamePlaces, ShowsTriangles};
-ghost use Rattle.pf_mesh.specs.TableSteps.{side_with, side_with_all, side_without};
+ghost use Rattle.pf_mesh.specs.TableSteps.{side_with, side_with_all, side_without, side_bare, is_bare, is_struck, AreBare};
 
 use crate::hasher::EdgeHasher;
 use indexmap::IndexMap;
@@ -32,8 +32,10 @@ pub struct Edge {
 }
 
 // Where an edge belongs in the table's memory: both directions of an edge side by side, and edges whose lower
-// names are neighbours in neighbouring groups, as long as the higher ones have the same eighth. The higher
-// bits, which the table looks at before it compares names, tell the rest of the higher name and the direction.
+// names are neighbours in neighbouring groups, as long as the higher ones have the same sixteenth. Those of the
+// next sixteenth begin 0.618 of the way round the groups from there, so that they spread evenly over them
+// (Fibonacci hashing, Knuth). The upper eight bits, which the table looks at before it compares names, tell the
+// rest of the higher name and the direction.
 impl Hash for Edge {
     ghost hash_input = { λ e. fed.u64 (place_of_edge e.from e.to) };
 
@@ -44,9 +46,9 @@ impl Hash for Edge {
         let low = self.from.min(self.to) as u64;
         let high = self.from.max(self.to) as u64;
         let rising = if self.from < self.to { 1 } else { 0 };
-        state.write_u64(
-            low + high / 8 * 2_654_435_761 + high % 8 * 33_554_432 + rising * 268_435_456,
-        );
+        let start = high / 16 * 42_470_972_311 / 16;
+        let place = low + start + high % 16 * 16_777_216 + rising * 2_147_483_648;
+        state.write_u64(place % 4_294_967_296);
     }
 }
 
@@ -84,6 +86,7 @@ fn is_side_of(tris: &[Tri], p: u32, q: u32) -> bool
 }
 
 // Enters a triangle.
+#[inline(always)]
 fn enter(sides: &mut SideMap, t: Tri)
     requires { 3 ≤ spare sides.old }
     ensures sides { (p q : ℕ) → side_at sides.new p q ≡ side_with t p q (side_at sides.old p q) }
@@ -105,6 +108,7 @@ fn enter(sides: &mut SideMap, t: Tri)
 }
 
 // Enters each of the triangles. Where a directed edge is there already, its side is written anew.
+#[inline(never)]
 fn enter_all(sides: &mut SideMap, new: &[Tri])
     requires { 3 * length new.now ≤ spare sides.old }
     ensures sides { (p q : ℕ) → side_at sides.new p q ≡ side_with_all new.now p q (side_at sides.old p q) }
@@ -115,13 +119,93 @@ fn enter_all(sides: &mut SideMap, new: &[Tri])
     }
 }
 
+// Whether one of the triangles has the corner `n`.
+fn is_corner_of(tris: &[Tri], n: u32) -> bool
+    ensures { result ≡ list_any (has_corner n) tris.now }
+{
+    tris.iter().any(|t| t.a == n || t.b == n || t.c == n)
+}
+
+// Whether one of the triangles has both corners.
+fn has_both(tris: &[Tri], u: u32, v: u32) -> bool
+    ensures { result ≡ list_any (λ t. has_corner u t && has_corner v t) tris.now }
+{
+    tris.iter().any(|t| {
+        (t.a == u || t.b == u || t.c == u) && (t.a == v || t.b == v || t.c == v)
+    })
+}
+
+// The edges at `u` that none of the triangles has: all of them, or else those to `v` and from it.
+fn bare_edges(tris: &[Tri], u: u32, v: u32) -> Option<bool>
+    ensures { (all : Bool) → result ≡ Some all → AreBare u v all tris.now }
+{
+    if !is_corner_of(tris, u) {
+        return Some(true);
+    }
+    if !has_both(tris, u, v) {
+        return Some(false);
+    }
+    None
+}
+
+// Whether the directed edge from `p` to `q` is at `u`, and is at `v` too unless `all`.
+#[inline(always)]
+fn is_bare(u: u32, v: u32, all: bool, p: u32, q: u32) -> bool
+    ensures { result ≡ is_bare u v all p q }
+{
+    (p == u && (all || q == v)) || (q == u && (all || p == v))
+}
+
+// Strikes a directed edge.
+#[inline(always)]
+fn strike(sides: &mut SideMap, p: u32, q: u32)
+    ensures sides { (a b : ℕ) → side_at sides.new a b ≡ cond (p == a && q == b) None (side_at sides.old a b) }
+    ensures spare { spare sides.old ≤ spare sides.new }
+{
+    sides.swap_remove(&Edge { from: p, to: q });
+}
+
+// Strikes a directed edge that is bare.
+#[inline(always)]
+fn strike_bare(sides: &mut SideMap, p: u32, q: u32, u: u32, v: u32, all: bool)
+    ensures sides { (a b : ℕ) → side_at sides.new a b ≡ side_bare (p == a && q == b) (is_bare u v all a b) (side_at sides.old a b) }
+    ensures spare { spare sides.old ≤ spare sides.new }
+{
+    if is_bare(u, v, all, p, q) {
+        strike(sides, p, q);
+    }
+}
+
+// Strikes the bare edges of a triangle.
+#[inline(always)]
+fn strike_bare_edges(sides: &mut SideMap, t: Tri, u: u32, v: u32, all: bool)
+    ensures sides { (p q : ℕ) → side_at sides.new p q ≡ side_bare (has_edge p q t) (is_bare u v all p q) (side_at sides.old p q) }
+    ensures spare { spare sides.old ≤ spare sides.new }
+{
+    strike_bare(sides, t.a, t.b, u, v, all);
+    strike_bare(sides, t.b, t.c, u, v, all);
+    strike_bare(sides, t.c, t.a, u, v, all);
+}
+
+// Strikes the bare edges of the triangles.
+#[inline(never)]
+fn strike_all_bare(sides: &mut SideMap, gone: &[Tri], u: u32, v: u32, all: bool)
+    ensures sides { (p q : ℕ) → side_at sides.new p q
+        ≡ side_bare (list_any (has_edge p q) gone.now) (is_bare u v all p q) (side_at sides.old p q) }
+    ensures spare { spare sides.old ≤ spare sides.new }
+{
+    for t in gone {
+        strike_bare_edges(sides, *t, u, v, all);
+    }
+}
+
 // Strikes a directed edge that none of the triangles has.
-fn strike(sides: &mut SideMap, p: u32, q: u32, new: &[Tri])
+fn strike_unless(sides: &mut SideMap, p: u32, q: u32, new: &[Tri])
     ensures sides { (a b : ℕ) → side_at sides.new a b ≡ side_without (p == a && q == b) new.now a b (side_at sides.old a b) }
     ensures spare { spare sides.old ≤ spare sides.new }
 {
     if !is_side_of(new, p, q) {
-        sides.swap_remove(&Edge { from: p, to: q });
+        strike(sides, p, q);
     }
 }
 
@@ -130,12 +214,13 @@ fn strike_edges(sides: &mut SideMap, t: Tri, new: &[Tri])
     ensures sides { (p q : ℕ) → side_at sides.new p q ≡ side_without (has_edge p q t) new.now p q (side_at sides.old p q) }
     ensures spare { spare sides.old ≤ spare sides.new }
 {
-    strike(sides, t.a, t.b, new);
-    strike(sides, t.b, t.c, new);
-    strike(sides, t.c, t.a, new);
+    strike_unless(sides, t.a, t.b, new);
+    strike_unless(sides, t.b, t.c, new);
+    strike_unless(sides, t.c, t.a, new);
 }
 
 // Strikes the directed edges that a triangle of the first list has and none of the second.
+#[inline(never)]
 fn strike_all(sides: &mut SideMap, gone: &[Tri], new: &[Tri])
     ensures sides { (p q : ℕ) → side_at sides.new p q
         ≡ side_without (list_any (has_edge p q) gone.now) new.now p q (side_at sides.old p q) }
@@ -144,6 +229,41 @@ fn strike_all(sides: &mut SideMap, gone: &[Tri], new: &[Tri])
     for t in gone {
         strike_edges(sides, *t, new);
     }
+}
+
+// Strikes the edges of the first list at `u` that are bare of the second, and says whether so many sides are
+// left then.
+fn is_struck_bare(
+    sides: &mut SideMap,
+    gone: &[Tri],
+    new: &[Tri],
+    u: u32,
+    v: u32,
+    left: usize,
+) -> bool
+    ensures kept { (p q : ℕ) → is_struck gone.now new.now p q ≡ false → side_at sides.new p q ≡ side_at sides.old p q }
+    ensures left { IsTrue result → index_map_len sides.new ≡ left }
+    ensures spare { spare sides.old ≤ spare sides.new }
+{
+    let Some(all) = bare_edges(new, u, v) else {
+        return false;
+    };
+    strike_all_bare(sides, gone, u, v, all);
+    sides.len() == left
+}
+
+// Strikes the directed edges that a triangle of the first list has and none of the second. Most often these
+// are the bare edges at `u`. Where as many sides are left after those as there should be, no others are
+// looked at.
+fn strike_gone(sides: &mut SideMap, gone: &[Tri], new: &[Tri], u: u32, v: u32, left: usize)
+    ensures kept { (p q : ℕ) → is_struck gone.now new.now p q ≡ false → side_at sides.new p q ≡ side_at sides.old p q }
+    ensures struck { (index_map_len sides.new ≡ left) ⊎ ((p q : ℕ) → is_struck gone.now new.now p q ≡ true → side_at sides.new p q ≡ None) }
+    ensures spare { spare sides.old ≤ spare sides.new }
+{
+    if is_struck_bare(sides, gone, new, u, v, left) {
+        return;
+    }
+    strike_all(sides, gone, new);
 }
 
 // A node without triangles at each point.
@@ -170,6 +290,7 @@ fn nodes_of(alloc: Global, points: &[Point]) -> Result<Vec<Node>, NoMemory>
 }
 
 // The node has one triangle more.
+#[inline(always)]
 fn raise(nodes: &mut Vec<Node>, n: u32)
     requires { n < vec_len nodes.old }
     ensures counts { (k : ℕ) → triangles_at nodes.old.items n < 2 ^ 63
@@ -185,6 +306,7 @@ fn raise(nodes: &mut Vec<Node>, n: u32)
 }
 
 // The node has one triangle less.
+#[inline(always)]
 fn lower(nodes: &mut Vec<Node>, n: u32)
     requires { n < vec_len nodes.old }
     ensures counts { (k : ℕ) → triangles_at nodes.new.items k ≡ triangles_at nodes.old.items k - cond (n == k) 1 0 }
@@ -199,6 +321,7 @@ fn lower(nodes: &mut Vec<Node>, n: u32)
 }
 
 // The corners of a triangle have one triangle more.
+#[inline(always)]
 fn raise_corners(nodes: &mut Vec<Node>, t: Tri)
     requires { IsWithin nodes.old.items t }
     ensures counts { IsTurned t → ((n : ℕ) → triangles_at nodes.old.items n < 2 ^ 62)
@@ -212,6 +335,7 @@ fn raise_corners(nodes: &mut Vec<Node>, t: Tri)
 }
 
 // The corners of a triangle have one triangle less.
+#[inline(always)]
 fn lower_corners(nodes: &mut Vec<Node>, t: Tri)
     requires { IsWithin nodes.old.items t }
     ensures counts { IsTurned t → (n : ℕ) → triangles_at nodes.new.items n ≡ triangles_at nodes.old.items n - cond (has_corner n t) 1 0 }
@@ -224,6 +348,7 @@ fn lower_corners(nodes: &mut Vec<Node>, t: Tri)
 }
 
 // The corners of each of the triangles have one triangle more for it.
+#[inline(never)]
 fn raise_all(nodes: &mut Vec<Node>, new: &[Tri])
     requires { All (IsWithin nodes.old.items) new.now }
     ensures counts { All IsTurned new.now → ((n : ℕ) → triangles_at nodes.old.items n + length new.now < 2 ^ 62)
@@ -237,6 +362,7 @@ fn raise_all(nodes: &mut Vec<Node>, new: &[Tri])
 }
 
 // The corners of each of the triangles have one triangle less for it.
+#[inline(never)]
 fn lower_all(nodes: &mut Vec<Node>, gone: &[Tri])
     requires { All (IsWithin nodes.old.items) gone.now }
     ensures counts { All IsTurned gone.now → (n : ℕ) → triangles_at nodes.new.items n ≡ triangles_at nodes.old.items n - number_at n gone.now }
@@ -249,7 +375,8 @@ fn lower_all(nodes: &mut Vec<Node>, gone: &[Tri])
 }
 
 impl EdgeTable {
-    /// A table of these points and no triangles, with room for so many.
+    /// A table of these points and no triangles, with room for so many. It has a third more room than they
+    /// need, so that few groups of the map are full.
     pub fn of_points(
         alloc: Global,
         points: &[Point],
@@ -261,7 +388,7 @@ impl EdgeTable {
     {
         let Ok(sides) = IndexMap::with_capacity_and_hasher(
             alloc,
-            3 * triangles,
+            4 * triangles,
             BuildHasherDefault::new(),
         ) else {
             return Err(NoMemory);
@@ -285,8 +412,11 @@ impl EdgeTable {
     }
 
     /// The first triangles give way to the second. The second are entered first, so that the directed edges
-    /// that both have stay where they are.
-    pub fn exchange(&mut self, gone: &[Tri], new: &[Tri])
+    /// that both have stay where they are. The names are those of an edge that goes, and the first of them
+    /// may be a node that goes.
+    pub fn exchange(&mut self, u: u32, v: u32, gone: &[Tri], new: &[Tri])
+        requires gone_few { length gone.now ≤ 60 }
+        requires new_few { length new.now ≤ 60 }
         requires gone_within { All (IsWithin self.old.nodes.items) gone.now }
         requires new_within { All (IsWithin self.old.nodes.items) new.now }
         requires room { 3 * length new.now ≤ spare self.old.sides }
@@ -296,9 +426,9 @@ impl EdgeTable {
         ensures room { spare self.old.sides ≤ spare self.new.sides + 3 * length new.now }
         ensures names { vec_capacity self.old.nodes ≤ vec_capacity self.new.nodes }
     {
-        let _ = self.sides.len();
+        let left = (self.sides.len() + 3 * new.len()).saturating_sub(3 * gone.len());
         enter_all(&mut self.sides, new);
-        strike_all(&mut self.sides, gone, new);
+        strike_gone(&mut self.sides, gone, new, u, v, left);
         let _ = self.sides.len();
         lower_all(&mut self.nodes, gone);
         raise_all(&mut self.nodes, new);
@@ -330,12 +460,19 @@ impl EdgeTable {
     }
 
     /// Where a node stands, and the origin where it isn't live.
+    pub fn spot(&self, n: u32) -> Point
+        ensures { result ≡ place_or_origin self.now.nodes.items n }
+    {
+        self.site(n).unwrap_or(Point { x: 0, y: 0 })
+    }
+
+    /// The same, which is in range where every place is.
     pub fn place(&self, n: u32) -> Point
         requires { AreInRange self.now.nodes.items }
         ensures value { result ≡ place_or_origin self.now.nodes.items n }
         ensures in_range { IsInRange result }
     {
-        self.site(n).unwrap_or(Point { x: 0, y: 0 })
+        self.spot(n)
     }
 
     /// Makes room for so many names, and for so many triangles more.

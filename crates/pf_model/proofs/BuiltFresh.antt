@@ -50,3 +50,13 @@ built-fresh points tris m h = go (first_fault points [] 0 tris) h
     go : (f : Option BuildErr) → (let r : Result Undivided BuildErr = elim f [ Some fault ↦ Err fault | None ↦ Ok (mesh_with points (map (turned_left points) tris)) ] in r ≡ Ok m) → IsFresh m 0
     go (Some fault) k = absurd (let a : Result Undivided BuildErr = Err fault in let w : a ≡ Ok m = k in cc)
     go None k = subst (λ w. IsFresh w 0) (ok_same _ _ k) (mesh_with-fresh points (map (turned_left points) tris))
+
+-- the first new name is the number of points
+pub built-first : (points : List Point) (tris : List (List ℕ)) (m : Undivided) → built points tris ≡ Ok m → length points ≡ m.first_new
+built-first points tris m h = go (first_fault points [] 0 tris) h
+  where
+    go : (f : Option BuildErr) → (let r : Result Undivided BuildErr = elim f [ Some fault ↦ Err fault | None ↦ Ok (mesh_with points (map (turned_left points) tris)) ] in r ≡ Ok m) → length points ≡ m.first_new
+    go (Some fault) k = absurd (let a : Result Undivided BuildErr = Err fault in let w : a ≡ Ok m = k in cc)
+    go None k =
+        let is : mesh_with points (map (turned_left points) tris) ≡ m = cc in
+        ap (λ w. w.first_new) is

@@ -23,7 +23,7 @@ not_eq_means : (a b : ℕ) → not (a == b) ≡ true → a ≢ b
 not_eq_means a b h = grind (arith, nat_tests)
 
 -- a spoke is known by its right
-same_spoke : (ss : List Spoke) (s t : Spoke) → AreDifferent (map (λ r. r.right) ss) → Contains ss s → Contains ss t → s.right ≡ t.right → s ≡ t
+pub same_spoke : (ss : List Spoke) (s t : Spoke) → AreDifferent (map (λ r. r.right) ss) → Contains ss s → Contains ss t → s.right ≡ t.right → s ≡ t
 same_spoke [] s t d hs ht e = absurd (nowhere s hs)
 same_spoke (x ∷ xs) s t d hs ht e = go (cases s x xs hs) (cases t x xs ht) (λ a b. same_spoke xs s t d.1 a b e)
   where
@@ -116,7 +116,7 @@ run_passed (suc most) ss r o h = go (left_after ss r) refl h (λ l k. run_passed
     go (Some l) e k ih = let x = left_after-some ss r l e in passed_more ss r l o x.0 x.1 x.2 x.3 (ih l k)
 
 -- the left of each is the right of a later one, or the last left
-beside_next : (order : List Spoke) (r last : ℕ) (s : Spoke) → AreBeside r (s ∷ order) last → (t : Spoke) → Contains (s ∷ order) t → (t.left ≡ last) ⊎ ((u : Spoke) × Contains order u × (u.right ≡ t.left))
+pub beside_next : (order : List Spoke) (r last : ℕ) (s : Spoke) → AreBeside r (s ∷ order) last → (t : Spoke) → Contains (s ∷ order) t → (t.left ≡ last) ⊎ ((u : Spoke) × Contains order u × (u.right ≡ t.left))
 beside_next [] r last s b t c = elim (cases t s [] c) [ inl e ↦ inl (ap (λ w. w.left) e ∙ b.1) | inr k ↦ absurd (nowhere t k) ]
 beside_next (x ∷ order) r last s b t c = go (cases t s (x ∷ order) c) (λ k. beside_next order s.left last x b.1 t k)
   where
@@ -125,13 +125,33 @@ beside_next (x ∷ order) r last s b t c = go (cases t s (x ∷ order) c) (λ k.
     go (inr k) ih = elim (ih k) [ inl a ↦ inl a | inr u ↦ inr (u.0, there u.0 x order u.1, u.2) ]
 
 -- where the first right is a left, it is the last left
-cycle_closes : (order ss : List Spoke) (r last : ℕ) → IsSimple ss → IsOrderOf order ss → AreBeside r order last → (t : Spoke) → Contains ss t → t.left ≡ r → last ≡ r
+pub cycle_closes : (order ss : List Spoke) (r last : ℕ) → IsSimple ss → IsOrderOf order ss → AreBeside r order last → (t : Spoke) → Contains ss t → t.left ≡ r → last ≡ r
 cycle_closes [] ss r last o h b t c e = absurd (nowhere t (h.all t c))
 cycle_closes (s ∷ order) ss r last o h b t c e =
     elim (beside_next order r last s b t (h.all t c)) [
       | inl a ↦ sym a ∙ e
       | inr u ↦ absurd (h.once.0 u.0 u.1 (same_spoke ss s u.0 o.different (h.only s (here s order)) (h.only u.0 (there u.0 s order u.1)) (b.0 ∙ sym (u.2 ∙ e))))
     ]
+
+-- the last left is the left of one of them
+pub beside_last : (order : List Spoke) (r last : ℕ) (s : Spoke) → AreBeside r (s ∷ order) last → IsLeft (s ∷ order) last
+beside_last [] r last s b = (s, here s [], b.1)
+beside_last (x ∷ order) r last s b = let l = beside_last order s.left last x b.1 in (l.0, there l.0 s (x ∷ order) l.1, l.2)
+
+-- where the last left is a right, it is the first right
+pub cycle_ends : (order ss : List Spoke) (r last : ℕ) → IsSimple ss → IsOrderOf order ss → AreBeside r order last → (t : Spoke) → Contains order t → t.right ≡ last → last ≡ r
+cycle_ends [] ss r last o h b t c e = absurd (nowhere t c)
+cycle_ends (s ∷ order) ss r last o h b t c e =
+    elim (cases t s order c) [
+      | inl q ↦ sym e ∙ (ap (λ w. w.right) q ∙ b.0)
+      | inr k ↦ absurd (within order h b.1 k (cycle_ends order (without_right s.right ss) s.left last (simple_less s.right ss o) (order_less s order ss o h) b.1 t k e))
+    ]
+  where
+    within : (more : List Spoke) → IsOrderOf (s ∷ more) ss → AreBeside s.left more last → Contains more t → last ≡ s.left → ⊥
+    within [] h b k q = nowhere t k
+    within (x ∷ more) h b k q =
+        let l = beside_last more s.left last x b in
+        h.once.0 l.0 l.1 (same_spoke ss s l.0 o.different (h.only s (here s (x ∷ more))) (h.only l.0 (there l.0 s (x ∷ more) l.1)) (o.one_right s l.0 (h.only s (here s (x ∷ more))) (h.only l.0 (there l.0 s (x ∷ more) l.1)) (sym (l.2 ∙ q))))
 
 fan_shape : (ss : List Spoke) → IsSimple ss → (p : IsPassed ss (run_start ss)) → (p.last ≡ run_start ss) ⊎ ((s : Spoke) → Contains ss s → s.left ≢ run_start ss)
 fan_shape [] o p = inr (λ s h. absurd (nowhere s h))
@@ -148,7 +168,7 @@ one_fan-means ss o h =
     record { order = p.order; orders = p.orders; first = run_start ss; last = p.last; beside = p.beside; shape = fan_shape ss o p }
 
 -- each right is the first one, or a left
-beside_rights : (order : List Spoke) (r last : ℕ) → AreBeside r order last → (t : Spoke) → Contains order t → (t.right ≡ r) ⊎ IsLeft order t.right
+pub beside_rights : (order : List Spoke) (r last : ℕ) → AreBeside r order last → (t : Spoke) → Contains order t → (t.right ≡ r) ⊎ IsLeft order t.right
 beside_rights [] r last b t c = absurd (nowhere t c)
 beside_rights (s ∷ order) r last b t c = go (cases t s order c) (λ k. beside_rights order s.left last b.1 t k)
   where
@@ -168,7 +188,7 @@ beside_split : (before after : List Spoke) (r last : ℕ) → AreBeside r (befor
 beside_split [] after r last b = (r, refl, b)
 beside_split (s ∷ before) after r last b = let h = beside_split before after s.left last b.1 in (h.0, (b.0, h.1), h.2)
 
-beside_join : (before after : List Spoke) (r x last : ℕ) → AreBeside r before x → AreBeside x after last → AreBeside r (before ++ after) last
+pub beside_join : (before after : List Spoke) (r x last : ℕ) → AreBeside r before x → AreBeside x after last → AreBeside r (before ++ after) last
 beside_join [] after r x last e b = subst (λ w. AreBeside w after last) (sym e) b
 beside_join (s ∷ before) after r x last e b = (e.0, beside_join before after s.left x last e.1 b)
 
@@ -234,3 +254,18 @@ one_fan-from (s ∷ ss) o f = ap (λ l. length l == 0) (go (path_start all all) 
           | inl k ↦ passes s.right (turned_to f.order all f.first s f.orders (subst (λ w. AreBeside f.first f.order w) k f.beside) (here s ss))
           | inr n ↦ absurd (let l = path_start-none all all e f.first (first_right f.order f.orders f.beside) in n l.0 l.1 l.2)
         ]
+
+-- spokes that lie beside each other are one fan
+pub beside_fan : (order ss : List Spoke) (r last : ℕ) → IsSimple ss → IsOrderOf order ss → AreBeside r order last → is_one_fan ss ≡ true
+beside_fan order ss r last o h b =
+    one_fan-from ss o record { order = order; orders = h; first = r; last = last; beside = b; shape = elim (left_or_not ss r) [ inl l ↦ inl (cycle_closes order ss r last o h b l.0 l.1 l.2) | inr n ↦ inr n ] }
+  where
+    eq_or_not : (a b : ℕ) → (a ≡ b) ⊎ (a ≢ b)
+    eq_or_not a b = grind arith
+
+    left_or_not : (xs : List Spoke) (n : ℕ) → IsLeft xs n ⊎ ((s : Spoke) → Contains xs s → s.left ≢ n)
+    left_or_not [] n = inr (λ s c e. nowhere s c)
+    left_or_not (x ∷ xs) n = elim (eq_or_not x.left n) [
+      | inl e ↦ inl (x, here x xs, e)
+      | inr d ↦ elim (left_or_not xs n) [ inl l ↦ inl (l.0, there l.0 x xs l.1, l.2) | inr f ↦ inr (λ s c. elim (cases s x xs c) [ inl q ↦ (λ e. d (ap (λ w. w.left) (sym q) ∙ e)) | inr k ↦ f s k ]) ]
+    ]

@@ -91,8 +91,8 @@ impl Edges {
         }
     }
 
-    // The place of an edge in the list.
-    fn find(&self, e: Span) -> Option<usize>
+    /// The place of an edge in the list.
+    pub fn find(&self, e: Span) -> Option<usize>
         ensures { IfSome result (StandsAt self.now.list.items (span_value e)) }
     {
         let lo = e.lo as usize;

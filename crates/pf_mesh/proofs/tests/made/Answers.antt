@@ -1,9 +1,9 @@
-use Rattle.std.proofs.Common.{◌<◌, sym, subst}
-use Rattle.pf_mesh.proofs.BuiltNames.{built-fresh, built-first}
+use Rattle.std.proofs.Common.{◌<◌, sym, subst, arith}
+use Rattle.pf_model.proofs.BuiltFresh.{built-fresh, built-first}
 use Rattle.pf_mesh.proofs.tests.made.Goals as goal
 
 pub returns-clause-fresh : goal.returns-clause-fresh
-returns-clause-fresh c = built-fresh c.args.points.now c.args.tris.now c.in_ok-mesh.mesh.mesh c.in_ok-mesh.ensures.ok
+returns-clause-fresh c = λ n l. let h = built-fresh c.args.points.now c.args.tris.now c.in_ok-mesh.mesh.mesh c.in_ok-mesh.ensures.ok n l in omega (arith, h)
 
 pub returns-clause-few : goal.returns-clause-few
 returns-clause-few c = let e = built-first c.args.points.now c.args.tris.now c.in_ok-mesh.mesh.mesh c.in_ok-mesh.ensures.ok in let l = c.requires.few_points in subst (λ k. k < 1048576) e l

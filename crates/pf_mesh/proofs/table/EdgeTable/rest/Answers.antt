@@ -9,7 +9,6 @@ use Rattle.pf_mesh.proofs.table.EdgeTable.rest.Goals as goal
 pub returns : goal.returns
 returns c = λ m ok s ts bs.
     let all = c.in_ok-edges.ensures.all m ok s ts in
-    let second : map sided_edge c.deref.result.now ≡ edges_of m = ap (map sided_edge) c.deref.ensures.value ∙ all in
-    let third : map sided_edge c.deref-2.result.now ≡ edges_of m = ap (map sided_edge) c.deref-2.ensures.value ∙ all in
+    let third : map sided_edge c.deref.result.now ≡ edges_of m = ap (map sided_edge) c.deref.ensures.value ∙ all in
     three_parts _ _ _ _ _ _ _ c.new-lines.ensures.items (c.in_ok-push_long.ensures m ok s bs) (c.in_ok-push_short.ensures m ok s bs) (c.in_ok-push_flips.ensures m ok s)
-    ∙ (λ i. flat_map (long_lines m) (all i) ++ (flat_map (short_lines m) (second i) ++ flat_map (flip_lines m) (third i)))
+    ∙ (λ i. flat_map (long_lines m) (all i) ++ (flat_map (short_lines m) (all i) ++ flat_map (flip_lines m) (third i)))

@@ -3,11 +3,11 @@ use Rattle.pf_model.specs.Mesh.{Undivided}
 use Rattle.pf_model.specs.Conforming.{IsConforming}
 use Rattle.pf_model.specs.Stars.{spokes_of}
 use Rattle.pf_mesh.specs.Table.{Shows}
-use Rattle.pf_mesh.specs.Star.{TurnsLeft}
+use Rattle.pf_mesh.specs.Star.{IsChain}
 use Rattle.pf_mesh.proofs.table.EdgeTable.turn_left.Given as goal
 
 abbrev pub decreases-turns : goal.decreases-turns
 decreases-turns l = l.most - length l.found.items
 
 abbrev pub invariant-turns : goal.invariant-turns
-invariant-turns l = (m : Undivided) → IsConforming m → Shows l.self.sides l.self.nodes.items m → TurnsLeft (spokes_of m l.u) l.found.items l.v l.right
+invariant-turns l = (m : Undivided) → IsConforming m → Shows l.self.sides l.self.nodes.items m → IsChain (spokes_of m l.u) l.fn.found.items l.first l.fn.ends.last → IsChain (spokes_of m l.u) l.found.items l.first l.right

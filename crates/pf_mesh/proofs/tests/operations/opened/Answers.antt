@@ -1,5 +1,5 @@
 use Rattle.std.proofs.Common.{arith}
-use Rattle.pf_mesh.proofs.BuiltNames.{built-fresh}
+use Rattle.pf_model.proofs.BuiltFresh.{built-fresh}
 use Rattle.pf_mesh.proofs.tests.operations.opened.Goals as goal
 
 pub returns-clause-fresh : goal.returns-clause-fresh

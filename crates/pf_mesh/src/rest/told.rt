@@ -1,0 +1,87 @@
+//! What the contractions of each edge onto its ends fail, noted by the edges' places.
+ghost use Rattle.std.specs.Prelude.{◌≡◌, List, Some, OnOk, IfSome, slice_get};
+ghost use Rattle.pf_model.specs.declared.Op.{Op};
+ghost use Rattle.pf_model.specs.Mesh.{Undivided};
+ghost use Rattle.pf_model.specs.Lengths.{Edge};
+ghost use Rattle.pf_mesh.specs.declared.rest.edges.Sided.{Sided};
+ghost use Rattle.pf_mesh.specs.Rest.{sided_edge, told_of, AreTold, AreNotes};
+
+use crate::rest::edges::Edges;
+use crate::ring::{Ring, make_rings};
+use pf_geom::NoMemory;
+use pf_model::Cond;
+use std::alloc::Global;
+
+/// The first condition that a contraction fails, or that it fails none.
+#[derive(Clone, Copy, Debug, PartialEq, Eq)]
+pub struct Told {
+    pub cond: Option<Cond>,
+}
+
+/// For the edge at each place, what its contraction onto the higher end and onto the lower one fails, where
+/// that was worked out, and the neighbours of nodes whose contractions were.
+#[derive(Drop)]
+pub struct Notes {
+    pub rings: Vec<Option<Ring>>,
+    pub onto_hi: Vec<Option<Told>>,
+    pub onto_lo: Vec<Option<Told>>,
+}
+
+// Makes room for what is told of so many edges, where there is none yet.
+fn make_room(told: &mut Vec<Option<Told>>, edges: usize) -> Result<(), NoMemory>
+    ensures { OnOk result ((m : Undivided) (edges : List Sided) (op : Edge → Op) → AreTold m edges op told.old.items → AreTold m edges op told.new.items) }
+{
+    if !told.is_empty() {
+        return Ok(());
+    }
+    match told.resize(edges, None) {
+        Ok(()) => Ok(()),
+        Err(_) => Err(NoMemory),
+    }
+}
+
+/// What is noted at a place.
+pub fn noted(told: &[Option<Told>], place: usize) -> Option<Told>
+    ensures { IfSome result (λ t. (m : Undivided) (edges : List Sided) (op : Edge → Op) (e : Sided) → AreTold m edges op told.now → slice_get edges place ≡ Some e
+        → t.cond ≡ told_of m op (sided_edge e)) }
+{
+    if place < told.len() {
+        told[place]
+    } else {
+        None
+    }
+}
+
+/// Notes at a place what a contraction fails.
+pub fn note(told: &mut Vec<Option<Told>>, place: usize, cond: Option<Cond>)
+    ensures { (m : Undivided) (edges : List Sided) (op : Edge → Op) (e : Sided) → AreTold m edges op told.old.items → slice_get edges place ≡ Some e
+        → cond ≡ told_of m op (sided_edge e) → AreTold m edges op told.new.items }
+{
+    if place >= told.len() {
+        return;
+    }
+    told[place] = Some(Told { cond });
+}
+
+impl Notes {
+    /// No notes.
+    pub fn new(alloc: Global) -> Notes
+        ensures { (m : Undivided) (edges : List Sided) → AreNotes m edges result }
+    {
+        Notes {
+            rings: Vec::new(alloc),
+            onto_hi: Vec::new(alloc),
+            onto_lo: Vec::new(alloc),
+        }
+    }
+
+    /// Makes room for what is noted of these edges and of so many names, where there is none yet.
+    pub fn reserve(&mut self, edges: &Edges, names: usize) -> Result<(), NoMemory>
+        ensures { OnOk result ((m : Undivided) (edges : List Sided) → AreNotes m edges self.old → AreNotes m edges self.new) }
+    {
+        make_rings(&mut self.rings, names)?;
+        make_room(&mut self.onto_hi, edges.list.len())?;
+        make_room(&mut self.onto_lo, edges.list.len())?;
+        Ok(())
+    }
+}
