@@ -1,21 +1,26 @@
 -- Edges of a list by their places, and what is noted of the walks from them.
 use Rattle.std.proofs.Common.{◌≡◌, ◌≢◌, ℕ, zero, suc, ◌+◌, ◌<◌, List, [], ◌∷◌, ◌++◌, append_assoc, length, drop, get_or, refl, sym, ◌∙◌, ap, subst, Bool, true, false, ◌==◌, arith}
-use Rattle.std.specs.Prelude.{All, IfSome, cond, flat_map, map, Option, Some, None, slice_get, slice_index_or}
+use Rattle.std.specs.Prelude.{All, Contains, IfSome, cond, flat_map, map, Option, Some, None, slice_get, slice_index_or}
 use Rattle.std.specs.Option.{option_map}
 use Rattle.std.proofs.Math.ListN.{set}
 use Rattle.std.proofs.lemmas.List.{drop_more, get_or-set_same, get_or-set_other, length-set}
+use Rattle.std.proofs.lemmas.Bool.Decides.{nat_tests}
+use Rattle.std.proofs.lemmas.List.Elements.{Contains-get_or}
 use Rattle.std.proofs.lemmas.Option.{slice_get_within, slice_get_read, slice_get-get_or, get_or_from_slice_get}
+use Rattle.pf_model.specs.declared.Tri.{Tri}
 use Rattle.pf_model.specs.declared.Op.TheVariants.{Bisect}
 use Rattle.pf_model.specs.declared.RestLine.{RestLine}
 use Rattle.pf_model.specs.declared.RestLine.TheVariants as line
-use Rattle.pf_model.specs.Mesh.{Undivided}
+use Rattle.pf_model.specs.Mesh.{Undivided, apex_in, has_edge, side_of}
+use Rattle.pf_model.specs.Conforming.{HasEdgesOnce, IsConforming}
+use Rattle.pf_model.proofs.Kept.{has_edge-first, side_of-found}
 use Rattle.pf_model.specs.Lengths.{Edge, is_long}
 use Rattle.pf_model.specs.Wishes.{acting_chunk, long_lines, terminal_of}
 use Rattle.pf_model.specs.Conditions.{first_failing}
 use Rattle.pf_mesh.specs.declared.rest.edges.Sided.{Sided}
 use Rattle.pf_mesh.specs.declared.rest.edges.Spot.{Spot}
 use Rattle.pf_mesh.specs.declared.rest.known.End.{End}
-use Rattle.pf_mesh.specs.Rest.{sided_edge, IsSided, IsListed, StandsAt, IsSpot, IsEnd, AreAtEnds, LeadTo}
+use Rattle.pf_mesh.specs.Rest.{sided_edge, AreSided, IsOnEdges, IsSided, IsListed, StandsAt, IsSpot, IsEnd, AreAtEnds, LeadTo}
 use Rattle.pf_mesh.specs.declared.table.Node.{Node}
 use Rattle.pf_mesh.specs.Flanks.{AreFlanks}
 use Rattle.pf_mesh.specs.Table.{Shows, Sides}
@@ -37,6 +42,25 @@ stands-within edges e i h = go (slice_get edges i) refl h
 -- the triangles that the mesh has at the edge
 pub flanks-shown : (m : Undivided) (table : Sides) (nodes : List Node) (e : Sided) → Shows table nodes m → IsSided table e → AreFlanks m.tris e.span.lo e.span.hi e.flanks
 flanks-shown m table nodes e s sided = record { on_left = sided.left ∙ s.triangles.sides e.span.lo e.span.hi; on_right = sided.right ∙ s.triangles.sides e.span.hi e.span.lo }
+
+-- a triangle's edges are its own
+sides-of_itself : (ts : List Tri) → HasEdgesOnce ts → (p q z : ℕ) (t : Tri) → Contains ts t → has_edge p q t ≡ true → apex_in p q t ≡ z → side_of ts p q ≡ Some record { apex = z; owner = t.owner }
+sides-of_itself ts once p q z t h e a = side_of-found ts once p q t h e ∙ ap (λ w. Some record { apex = w; owner = t.owner }) a
+
+-- the table has the triangles of the mesh on their edges
+pub are-sided : (m : Undivided) (table : Sides) (nodes : List Node) → IsConforming m → Shows table nodes m → AreSided table m.tris
+are-sided m table nodes ok s k d l = on_edges (slice_index_or m.tris k d) (Contains-get_or m.tris k d l)
+  where
+    on_edges : (t : Tri) → Contains m.tris t → IsOnEdges table t
+    on_edges t h =
+        let proper = ok.proper t h in
+        let least : t.a < t.b = proper.least in
+        let least' : t.a < t.c = proper.least' in
+        record {
+          from_first = s.triangles.sides t.a t.b ∙ sides-of_itself m.tris ok.edges_once t.a t.b t.c t h (has_edge-first t) (grind (arith, nat_tests));
+          from_second = s.triangles.sides t.b t.c ∙ sides-of_itself m.tris ok.edges_once t.b t.c t.a t h (grind (arith, nat_tests)) (grind (arith, nat_tests));
+          from_third = s.triangles.sides t.c t.a ∙ sides-of_itself m.tris ok.edges_once t.c t.a t.b t h (grind (arith, nat_tests)) (grind (arith, nat_tests));
+        }
 
 -- an edge of the list
 pub listed-at : (table : Sides) (edges : List Sided) (i : ℕ) (x : Sided) → All (IsListed table) edges → i < length edges → x ≡ slice_index_or edges i x → IsListed table x

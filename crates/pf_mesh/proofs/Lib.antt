@@ -15,6 +15,7 @@ pub mod BuildKept
 pub mod StarLists
 pub mod StarTurns
 pub mod StarSpokes
+pub mod StarSpots
 pub mod StarFan
 pub mod Signed
 pub mod ContractReads
@@ -37,6 +38,9 @@ pub mod FlipAlone
 pub mod Entries
 pub mod Exchanged
 pub mod EdgeSpots
+pub mod EdgeSearch
 pub mod NewEdges
 pub mod ToldNotes
-pub mod Rings
+pub mod Near
+pub mod Uncrossed
+pub mod StarAround

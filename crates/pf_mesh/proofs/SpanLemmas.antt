@@ -1,12 +1,12 @@
 -- The edges of the triangles: gathered triangle by triangle, different, and sorted by names.
-use Rattle.std.proofs.Common.{◌≡◌, ◌≢◌, ℕ, zero, suc, ◌+◌, ◌<◌, ◌≤◌, List, [], ◌∷◌, ◌++◌, length, drop, get_or, refl, sym, ◌∙◌, ap, subst, Bool, true, false, cond, ◌&&◌, ◌||◌, ◌==◌, ◌⊎◌, inl, inr, arith}
-use Rattle.std.specs.Prelude.{Contains, filter, map, min, max, not, Option, Some, None, is_some, nat_lt}
+use Rattle.std.proofs.Common.{◌≡◌, ◌≢◌, ℕ, zero, suc, ◌+◌, ◌<◌, ◌≤◌, List, [], ◌∷◌, ◌++◌, append_assoc, length, drop, get_or, refl, sym, ◌∙◌, ap, subst, Bool, true, false, cond, ◌&&◌, ◌||◌, ◌==◌, ◌⊎◌, inl, inr, arith}
+use Rattle.std.specs.Prelude.{Contains, filter, flat_map, map, min, max, not, Option, Some, None, is_some, nat_lt}
 use Rattle.std.specs.List.{IsDistinct}
 use Rattle.std.specs.Ordering.{is_lt, nat_cmp, ordering_then}
 use Rattle.std.specs.List.Sorted.{IsPermutation}
 use Rattle.std.proofs.lemmas.Bool.Decides.{nat_tests}
 use Rattle.std.proofs.lemmas.List.{drop_more, get_or-map, length-map}
-use Rattle.std.proofs.lemmas.List.Sorted.{Contains-permutation, IsPermutation-map, IsPermutation-sym}
+use Rattle.std.proofs.lemmas.List.Sorted.{Contains-permutation, IsPermutation-append_comm, IsPermutation-append_left, IsPermutation-append_right, IsPermutation-refl, IsPermutation-sym, IsPermutation-trans}
 use Rattle.std.proofs.lemmas.List.Elements.{Contains-get_or}
 use Rattle.std.proofs.lemmas.Map.Keys.{IsDistinct-from_apart, IsDistinct-IsPermutation, apart_from_distinct}
 use Rattle.pf_model.specs.declared.Tri.{Tri}
@@ -20,8 +20,10 @@ use Rattle.pf_model.proofs.RisingLemmas.{IsStrictOrder, rising-same}
 use Rattle.pf_model.proofs.Totals.{Compares, different-filter, map-means, sorted-rises}
 use Rattle.pf_model.proofs.Triangles.{side_of-none}
 use Rattle.pf_model.proofs.EdgeSum.{conforming-sound, directed_edges_of-different, directed_edges_of-means}
+use Rattle.pf_mesh.specs.declared.rest.edges.Corner.{Corner}
+use Rattle.pf_mesh.specs.declared.rest.edges.Corner.TheVariants.{First, Second, Third}
 use Rattle.pf_mesh.specs.declared.rest.edges.Sided.{Sided}
-use Rattle.pf_mesh.specs.Rest.{counted_in, sided_edge}
+use Rattle.pf_mesh.specs.Rest.{counted_from, counted_in, edge_from, sided_edge}
 use Rattle.pf_mesh.proofs.Exchange.{bool_cases}
 
 -- the edges of the triangles that are left
@@ -37,10 +39,58 @@ counted-append ts (e ∷ es) fs = go (is_counted ts e) (counted-append ts es fs)
     go true ih = ap (λ l. edge e ∷ l) ih
     go false ih = ih
 
-pub counted-more : (ts us : List Tri) (i : ℕ) (t : Tri) → i < length us → counted_in ts (directed_edges_of (drop i us)) ≡ counted_in ts (directed_edges_in (get_or us i t)) ++ counted_in ts (directed_edges_of (drop (i + 1) us))
-counted-more ts us i t l =
-    ap (λ l'. counted_in ts (directed_edges_of l')) (drop_more us i t l)
-    ∙ counted-append ts (directed_edges_in (get_or us i t)) (directed_edges_of (drop (i + 1) us))
+-- one triangle's edge more
+pub counted_from-more : (ts us : List Tri) (corner : Corner) (i : ℕ) (t : Tri) → i < length us → counted_from ts corner (drop i us) ≡ counted_in ts (edge_from corner (get_or us i t) ∷ []) ++ counted_from ts corner (drop (i + 1) us)
+counted_from-more ts us corner i t l = ap (counted_from ts corner) (drop_more us i t l)
+
+-- the edges of each triangle, by their corners
+abbrev counted_by : List Tri → Tri → List Edge
+counted_by ts t = counted_in ts (edge_from First t ∷ []) ++ (counted_in ts (edge_from Second t ∷ []) ++ counted_in ts (edge_from Third t ∷ []))
+
+counted-by_corners : (ts : List Tri) (t : Tri) → counted_in ts (directed_edges_in t) ≡ counted_by ts t
+counted-by_corners ts t =
+    counted-append ts (edge_from First t ∷ []) (edge_from Second t ∷ edge_from Third t ∷ [])
+    ∙ ap (λ l. counted_in ts (edge_from First t ∷ []) ++ l) (counted-append ts (edge_from Second t ∷ []) (edge_from Third t ∷ []))
+
+counted-by_triangles : (ts us : List Tri) → counted_in ts (directed_edges_of us) ≡ flat_map (counted_by ts) us
+counted-by_triangles ts [] = refl
+counted-by_triangles ts (u ∷ us) =
+    counted-append ts (directed_edges_in u) (directed_edges_of us)
+    ∙ (ap (λ l. l ++ counted_in ts (directed_edges_of us)) (counted-by_corners ts u) ∙ ap (λ l. counted_by ts u ++ l) (counted-by_triangles ts us))
+
+-- two lists in parts, part by part
+parts-exchanged : {X : Type 0} (a b c d : List X) → IsPermutation ((a ++ b) ++ (c ++ d)) ((a ++ c) ++ (b ++ d))
+parts-exchanged {X} a b c d =
+    subst (λ l. IsPermutation l ((a ++ c) ++ (b ++ d))) (sym (append_assoc a b (c ++ d)))
+    (subst (λ l. IsPermutation (a ++ (b ++ (c ++ d))) l) (sym (append_assoc a c (b ++ d))) (IsPermutation-append_right a (b ++ (c ++ d)) (c ++ (b ++ d)) inner))
+  where
+    inner : IsPermutation (b ++ (c ++ d)) (c ++ (b ++ d))
+    inner =
+        subst (λ l. IsPermutation l (c ++ (b ++ d))) (append_assoc b c d)
+        (subst (λ l. IsPermutation ((b ++ c) ++ d) l) (append_assoc c b d) (IsPermutation-append_left d (b ++ c) (c ++ b) (IsPermutation-append_comm b c)))
+
+-- what three passes gather is what one pass gathers
+three_passes : {T X : Type 0} (f g h : T → List X) (ts : List T) → IsPermutation (flat_map (λ t. f t ++ (g t ++ h t)) ts) (flat_map f ts ++ (flat_map g ts ++ flat_map h ts))
+three_passes f g h [] = IsPermutation-refl []
+three_passes {T} {X} f g h (t ∷ ts) =
+    let fs : List X = flat_map f ts in
+    let gs : List X = flat_map g ts in
+    let hs : List X = flat_map h ts in
+    let each : List X = flat_map (λ u. f u ++ (g u ++ h u)) ts in
+    let start : List X = f t ++ (g t ++ h t) in
+    IsPermutation-trans (start ++ each) (start ++ (fs ++ (gs ++ hs))) ((f t ++ fs) ++ ((g t ++ gs) ++ (h t ++ hs)))
+    (IsPermutation-append_right start each (fs ++ (gs ++ hs)) (three_passes f g h ts))
+    (
+    IsPermutation-trans (start ++ (fs ++ (gs ++ hs))) ((f t ++ fs) ++ ((g t ++ h t) ++ (gs ++ hs))) ((f t ++ fs) ++ ((g t ++ gs) ++ (h t ++ hs)))
+    (parts-exchanged (f t) (g t ++ h t) fs (gs ++ hs))
+    (IsPermutation-append_right (f t ++ fs) ((g t ++ h t) ++ (gs ++ hs)) ((g t ++ gs) ++ (h t ++ hs)) (parts-exchanged (g t) (h t) gs hs))
+    )
+
+-- the counted edges, corner by corner
+pub counted-permuted : (ts us : List Tri) → IsPermutation (counted_in ts (directed_edges_of us)) (counted_from ts First us ++ (counted_from ts Second us ++ counted_from ts Third us))
+counted-permuted ts us =
+    subst (λ l. IsPermutation l (counted_from ts First us ++ (counted_from ts Second us ++ counted_from ts Third us))) (sym (counted-by_triangles ts us))
+    (three_passes (λ t. counted_in ts (edge_from First t ∷ [])) (λ t. counted_in ts (edge_from Second t ∷ [])) (λ t. counted_in ts (edge_from Third t ∷ [])) us)
 
 -- the counted edges are different
 
@@ -90,13 +140,13 @@ counted-different m ok =
 
 -- edges that are sorted by names
 
-edge_lt-order : IsStrictOrder edge_lt
+pub edge_lt-order : IsStrictOrder edge_lt
 edge_lt-order = record { irreflexive = λ x. grind (arith, nat_tests); transitive = λ x y z h k. grind (arith, nat_tests) }
 
 edge-same : (x y : Edge) → x.lo ≡ y.lo → x.hi ≡ y.hi → x ≡ y
 edge-same x y e f = λ i. record { lo = e i; hi = f i }
 
-edge_lt-compares : Compares edge_lt
+pub edge_lt-compares : Compares edge_lt
 edge_lt-compares x y n = elim (cases_of x.lo x.hi y.lo y.hi) [ inl e ↦ absurd (n (edge-same x y e.0 e.1)) | inr r ↦ r ]
   where
     cases_of : (a b c d : ℕ) → ((a ≡ c) × (b ≡ d)) ⊎ (((nat_lt a c || (a == c && nat_lt b d)) ≡ true) ⊎ ((nat_lt c a || (c == a && nat_lt d b)) ≡ true))
@@ -150,17 +200,14 @@ NotBefore y x = is_lt (ordering_then (nat_cmp y.span.lo x.span.lo) (nat_cmp y.sp
 steps_up : (x y : Sided) → NotBefore y x → same_names (sided_edge x) (sided_edge y) ≡ false → edge_lt (sided_edge x) (sided_edge y) ≡ true
 steps_up x y n e = grind (arith, nat_tests)
 
-pub sorted-spans : (xs ys : List Sided) → AreDifferent (map sided_edge xs) → IsPermutation xs ys → ((k : ℕ) (d : Sided) → 0 ≤ k → k + 1 < length ys → NotBefore (get_or ys (k + 1) d) (get_or ys k d)) → map sided_edge ys ≡ sorted_by edge_lt (map sided_edge xs)
-sorted-spans xs ys o p n =
-    rising-same edge_lt edge_lt-order (map sided_edge ys) (sorted_by edge_lt (map sided_edge xs)) (rising-steps (map sided_edge ys) steps) (sorted-rises edge_lt edge_lt-order edge_lt-compares (map sided_edge xs) o)
-    (λ z h. insert_all_by-new edge_lt z (map sided_edge xs) [] (Contains-permutation (map sided_edge ys) (map sided_edge xs) z (IsPermutation-sym (map sided_edge xs) (map sided_edge ys) p') h))
-    (λ z h. elim (insert_all_by-cases edge_lt z (map sided_edge xs) [] h) [ inl a ↦ Contains-permutation (map sided_edge xs) (map sided_edge ys) z p' a | inr b ↦ absurd (nowhere z b) ])
+pub sorted-spans : (es : List Edge) (ys : List Sided) → AreDifferent es → IsPermutation es (map sided_edge ys) → ((k : ℕ) (d : Sided) → 0 ≤ k → k + 1 < length ys → NotBefore (get_or ys (k + 1) d) (get_or ys k d)) → map sided_edge ys ≡ sorted_by edge_lt es
+sorted-spans es ys o p n =
+    rising-same edge_lt edge_lt-order (map sided_edge ys) (sorted_by edge_lt es) (rising-steps (map sided_edge ys) steps) (sorted-rises edge_lt edge_lt-order edge_lt-compares es o)
+    (λ z h. insert_all_by-new edge_lt z es [] (Contains-permutation (map sided_edge ys) es z (IsPermutation-sym es (map sided_edge ys) p) h))
+    (λ z h. elim (insert_all_by-cases edge_lt z es [] h) [ inl a ↦ Contains-permutation es (map sided_edge ys) z p a | inr b ↦ absurd (nowhere z b) ])
   where
-    p' : IsPermutation (map sided_edge xs) (map sided_edge ys)
-    p' = IsPermutation-map sided_edge xs ys p
-
     distinct : IsDistinct same_names (map sided_edge ys)
-    distinct = IsDistinct-IsPermutation same_names same_names-flips (map sided_edge xs) (map sided_edge ys) p' (distinct-names (map sided_edge xs) o)
+    distinct = IsDistinct-IsPermutation same_names same_names-flips es (map sided_edge ys) p (distinct-names es o)
 
     steps : Steps (map sided_edge ys)
     steps k d l =

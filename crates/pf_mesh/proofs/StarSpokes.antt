@@ -91,7 +91,7 @@ pub spokes-rise : (m : Undivided) → IsConforming m → (n : ℕ) → IsRising 
 spokes-rise m ok n = rising-sorted (filter_map (spoke_of m n) m.tris) (different-raw m ok n m.tris (λ t h. h) (rising-different m.tris ok.tris_rise))
 
 -- there are as many as triangles at the node
-length-insert : (s : Spoke) (ss : List Spoke) → length (insert_by spoke_lt s ss) ≡ suc (length ss)
+pub length-insert : (s : Spoke) (ss : List Spoke) → length (insert_by spoke_lt s ss) ≡ suc (length ss)
 length-insert s [] = refl
 length-insert s (r ∷ rs) = go (spoke_lt s r) (length-insert s rs)
   where

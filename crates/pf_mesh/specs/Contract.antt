@@ -1,5 +1,5 @@
 -- The conditions of a contraction that are asked of the star of the node that goes, and what the contraction makes of it.
-use Rattle.std.specs.Prelude.{◌≡◌, ◌≤◌, ℕ, pos, List, [], ◌∷◌, ◌++◌, Bool, true, not, ◌&&◌, ◌||◌, ◌==◌, Option, filter, length, map, min, max, unwrap_or}
+use Rattle.std.specs.Prelude.{◌≡◌, ◌≤◌, ℕ, pos, List, [], ◌∷◌, ◌++◌, Bool, true, false, not, ◌&&◌, ◌||◌, ◌==◌, Option, filter, length, map, min, max, unwrap_or}
 use Rattle.std.specs.Ordering.{int_eq}
 use Rattle.pf_model.specs.declared.Tri.{Tri}
 use Rattle.pf_model.specs.declared.Spoke.{Spoke}
@@ -59,11 +59,17 @@ star_tris u us = map (tri_at u) us
 abbrev pub moved_tris : ℕ → List Spoke → List Tri
 moved_tris v us = map (tri_at v) (filter (is_without v) us)
 
--- what the star of u says by itself: where its path begins and ends, and whether it bends at u
+-- no edge between two neighbours is too long
+abbrev pub AreClose : Undivided → List Spoke → Type 0
+AreClose m us = (v x : ℕ) → is_neighbour v us ≡ true → is_neighbour x us ≡ true → is_long m v x ≡ false
+
+-- what the star of u says by itself: where its path begins and ends, whether it bends at u, and that its nodes are close, where
+-- that is told
 pub record IsRim (m : Undivided) (u : ℕ) (us : List Spoke) (rim : Rim) : Type 0 where
   pub first : rim.first ≡ path_start us us
   pub last : rim.last ≡ unwrap_or (path_end us us) 0
   pub bent : rim.bent ≡ is_corner m u us
+  pub close : rim.close ≡ true → AreClose m us
 
 -- the least of these names that passes is the least neighbour that does
 abbrev pub AreAround : List Spoke → List ℕ → Type 0

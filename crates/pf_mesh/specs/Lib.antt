@@ -13,6 +13,7 @@ pub mod Tables
 pub mod Relist
 pub mod Run
 pub mod Rest
+pub mod Crossed
 pub mod TableSteps
 pub mod Hasher
-pub mod Ring
+pub mod Around

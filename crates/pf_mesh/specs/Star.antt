@@ -1,14 +1,26 @@
 -- The star of a node as it is found by turning round the node, spoke by spoke.
 use Rattle.std.specs.Prelude.{◌≡◌, ℕ, ◌<◌, ◌==◌, Bool, true, List, Contains, length, Option, Some, None}
 use Rattle.std.specs.List.{list_any}
+use Rattle.pf_geom.specs.Plane.{IsInRange}
 use Rattle.pf_model.specs.declared.Spoke.{Spoke}
 use Rattle.pf_model.specs.Rising.{IsRising}
+use Rattle.pf_model.specs.Mesh.{Undivided, place_of}
 use Rattle.pf_model.specs.Fans.{AreBeside, IsOrderOf}
 use Rattle.pf_model.specs.Stars.{spoke_lt, is_one_fan}
 
 -- a spoke has this right
 abbrev pub has_right : ℕ → List Spoke → Bool
 has_right n ss = list_any (λ s. s.right == n) ss
+
+-- the points of a spoke are in range
+pub record HasSpots (s : Spoke) : Type 0 where
+  pub right : IsInRange s.right_at
+  pub left : IsInRange s.left_at
+
+-- the points of a spoke are where its nodes stand
+pub record IsPlaced (m : Undivided) (s : Spoke) : Type 0 where
+  pub right : s.right_at ≡ place_of m s.right
+  pub left : s.left_at ≡ place_of m s.left
 
 -- what is found where the spoke with this right is looked for
 pub record IsSpokeOn (spokes : List Spoke) (n : ℕ) (found : Option Spoke) : Type 0 where

@@ -1,28 +1,27 @@
 //! The first condition that a contraction fails, by the edge table, and the triangles that it exchanges.
-ghost use Rattle.std.specs.Prelude.{◌≡◌, ℕ, Bool, false, ◌≤◌, ◌||◌, ◌&&◌, ◌==◌, not, pos, length, List, min, Option, None, true, is_some, unwrap_or};
+ghost use Rattle.std.specs.Prelude.{◌≡◌, ℕ, Bool, false, ◌≤◌, ◌||◌, ◌&&◌, ◌==◌, not, pos, length, All, List, min, Option, None, true, is_some, unwrap_or};
 ghost use Rattle.std.specs.Option.{option_map};
 ghost use Rattle.std.specs.Ordering.{int_eq};
 ghost use Rattle.pf_geom.specs.Plane.{IsInRange, orient_of};
 ghost use Rattle.pf_model.specs.Clauses.{first_of};
 ghost use Rattle.pf_model.specs.declared.Op.TheVariants.{Contract};
-ghost use Rattle.pf_model.specs.Mesh.{Undivided, side_of, turn_at, is_edge};
+ghost use Rattle.pf_model.specs.Mesh.{Undivided, place_of, side_of, turn_at, is_edge};
 ghost use Rattle.pf_model.specs.Conforming.{IsConforming};
 ghost use Rattle.pf_model.specs.Lengths.{is_long};
 ghost use Rattle.pf_model.specs.Stars.{spokes_of, is_neighbour};
 ghost use Rattle.pf_model.specs.Conditions.{is_apex, is_positive, neighbours, lesser, least_that, inverted, first_failing};
-ghost use Rattle.pf_mesh.specs.Table.{place_or_origin, side_value, AreInRange, Shows};
+ghost use Rattle.pf_mesh.specs.Table.{side_value, AreInRange, Shows};
 ghost use Rattle.pf_mesh.specs.Flanks.{AreFlanks};
 ghost use Rattle.pf_mesh.specs.Mesh.{IsKept};
 ghost use Rattle.pf_mesh.specs.Operations.{IsChange};
-ghost use Rattle.pf_mesh.specs.Ring.{AreRings};
+ghost use Rattle.pf_mesh.specs.Star.{HasSpots, IsPlaced};
 ghost use Rattle.pf_model.specs.declared.Spoke.{Spoke};
 ghost use Rattle.pf_model.specs.declared.Tri.{Tri};
-ghost use Rattle.pf_mesh.specs.Contract.{AreAround, IsRim, IsStar, is_off_boundary, is_link_node, is_too_long, star_clauses, star_tris, moved_tris, is_without};
+ghost use Rattle.pf_mesh.specs.Contract.{AreAround, AreClose, IsRim, is_off_boundary, is_link_node, is_too_long, star_clauses, star_tris, moved_tris, is_without};
 
 use crate::change::Tris;
 use crate::conditions::{edge_condition, turns_left};
 use crate::flanks::Flanks;
-use crate::ring::{Ring, are_beside};
 use crate::scratch::{Names, Scratch, StarLists};
 use crate::star::{first_right, is_right, last_left};
 use crate::table::{EdgeTable, Left, turned};
@@ -49,8 +48,8 @@ fn is_apex_of(side: Option<Left>, x: u32) -> bool
     }
 }
 
-// Whether the node is an apex of the edge with these flanks.
-fn is_an_apex(flanks: Flanks, x: u32) -> bool
+/// Whether the node is an apex of the edge with these flanks.
+pub fn is_an_apex(flanks: Flanks, x: u32) -> bool
     ensures { (ts : List Tri) (u v : ℕ) → AreFlanks ts u v flanks → result ≡ (is_apex x (side_of ts u v) || is_apex x (side_of ts v u)) }
 {
     is_apex_of(flanks.left, x) || is_apex_of(flanks.right, x)
@@ -66,13 +65,15 @@ fn is_flat(a: Point, b: Point, c: Point) -> bool
     orient(a, b, c) == 0
 }
 
-/// What a star says by itself of a contraction of its node: where its path begins and ends, and whether it
-/// bends at the node. A star that is a cycle has no path.
+/// What a star says by itself of a contraction of its node: where its path begins and ends, whether it bends at
+/// the node, and whether its nodes are known to be so close that no edge between two of them is too long. A star
+/// that is a cycle has no path.
 #[derive(Clone, Copy, Debug, PartialEq, Eq)]
 pub struct Rim {
     pub first: Option<u32>,
     pub last: u32,
     pub bent: bool,
+    pub close: bool,
 }
 
 impl Rim {
@@ -85,6 +86,32 @@ impl Rim {
             None => false,
         }
     }
+}
+
+// Whether the triangle of a spoke would turn over with `v`, which stands there, in the node's place.
+fn is_inverted(v: u32, at: Point, s: &Spoke) -> bool
+    requires point { IsInRange at }
+    requires spots { HasSpots s.now }
+    ensures { result ≡ (is_without v s.now && not (is_positive (orient_of at s.now.right_at s.now.left_at))) }
+{
+    is_spoke_without(s, v) && !turns_left(at, s.right_at, s.left_at)
+}
+
+// The first triangle of the star that would turn over with `v`, which stands there.
+fn first_inverted(v: u32, at: Point, star: &[Spoke]) -> Option<Cond>
+    requires point { IsInRange at }
+    requires spots { All HasSpots star.now }
+    ensures { (m : Undivided) → at ≡ place_of m v → All (IsPlaced m) star.now → result ≡ inverted m v star.now }
+{
+    for s in star {
+        if is_inverted(v, at, s) {
+            return Some(Cond::Inverts {
+                x: s.right,
+                y: s.left,
+            });
+        }
+    }
+    None
 }
 
 /// The neighbours of the star's node, each once, in place of what the list held.
@@ -103,8 +130,8 @@ pub fn names_around(star: &[Spoke], names: &mut Names)
     }
 }
 
-// The lesser of two names, where there is a first.
-fn lesser_of(least: Option<u32>, n: u32) -> Option<u32>
+/// The lesser of two names, where there is a first.
+pub fn lesser_of(least: Option<u32>, n: u32) -> Option<u32>
     ensures { result ≡ lesser least n }
 {
     match least {
@@ -157,69 +184,35 @@ impl EdgeTable {
         x != v && self.is_edge(x, v)
     }
 
-    // Whether the node is a neighbour of `v`, by what is noted, and by the table where that isn't.
-    fn is_near(&self, rings: &[Option<Ring>], x: u32, v: u32) -> bool
-        ensures { (m : Undivided) → IsConforming m → Shows self.now.sides self.now.nodes.items m → AreRings m rings.now
-            → result ≡ is_neighbour x (spokes_of m v) }
-    {
-        match are_beside(rings, x, v) {
-            Some(told) => told,
-            None => self.is_beside(x, v),
-        }
-    }
-
     // Whether the node is a neighbour of `v`, and no apex of the edge to `v`, which takes no look-up.
-    fn is_link(&self, rings: &[Option<Ring>], v: u32, x: u32, flanks: Flanks) -> bool
-        ensures { (m : Undivided) (u : ℕ) → IsConforming m → Shows self.now.sides self.now.nodes.items m → AreRings m rings.now → AreFlanks m.tris u v flanks
+    fn is_link(&self, v: u32, x: u32, flanks: Flanks) -> bool
+        ensures { (m : Undivided) (u : ℕ) → IsConforming m → Shows self.now.sides self.now.nodes.items m → AreFlanks m.tris u v flanks
             → result ≡ is_link_node m u v (spokes_of m v) x }
     {
-        !is_an_apex(flanks, x) && self.is_near(rings, x, v)
+        !is_an_apex(flanks, x) && self.is_beside(x, v)
     }
 
     // The least of these names that is a neighbour of `v`, and no apex of the edge to `v`.
-    fn least_link(
-        &self,
-        rings: &[Option<Ring>],
-        v: u32,
-        flanks: Flanks,
-        names: &[u32],
-    ) -> Option<u32>
-        ensures { (m : Undivided) (u : ℕ) → IsConforming m → Shows self.now.sides self.now.nodes.items m → AreRings m rings.now → AreFlanks m.tris u v flanks
+    fn least_link(&self, v: u32, flanks: Flanks, names: &[u32]) -> Option<u32>
+        ensures { (m : Undivided) (u : ℕ) → IsConforming m → Shows self.now.sides self.now.nodes.items m → AreFlanks m.tris u v flanks
             → result ≡ least_that (is_link_node m u v (spokes_of m v)) names.now }
     {
         let mut least = None;
         for x in names {
-            if self.is_link(rings, v, *x, flanks) {
+            if self.is_link(v, *x, flanks) {
                 least = lesser_of(least, *x);
             }
         }
         least
     }
 
-    // Whether the triangle of a spoke would turn over with `v`, which stands there, in the node's place.
-    fn is_inverted(&self, v: u32, at: Point, s: &Spoke) -> bool
-        requires nodes { AreInRange self.now.nodes.items }
-        requires point { IsInRange at }
-        ensures { (m : Undivided) → Shows self.now.sides self.now.nodes.items m → at ≡ place_or_origin self.now.nodes.items v → result ≡ (is_without v s.now && not (is_positive (turn_at m v s.now.right s.now.left))) }
+    // The first triangle of the star that would turn over with `v` in the node's place.
+    fn first_turned_over(&self, v: u32, star: &[Spoke]) -> Option<Cond>
+        requires in_range { AreInRange self.now.nodes.items }
+        requires spots { All HasSpots star.now }
+        ensures { (m : Undivided) (u : ℕ) → Shows self.now.sides self.now.nodes.items m → star.now ≡ spokes_of m u → result ≡ inverted m v star.now }
     {
-        is_spoke_without(s, v) && !turns_left(at, self.place(s.right), self.place(s.left))
-    }
-
-    // The first triangle of the star that would turn over with `v`, which stands there.
-    fn first_inverted(&self, v: u32, at: Point, star: &[Spoke]) -> Option<Cond>
-        requires nodes { AreInRange self.now.nodes.items }
-        requires point { IsInRange at }
-        ensures { (m : Undivided) → Shows self.now.sides self.now.nodes.items m → at ≡ place_or_origin self.now.nodes.items v → result ≡ inverted m v star.now }
-    {
-        for s in star {
-            if self.is_inverted(v, at, s) {
-                return Some(Cond::Inverts {
-                    x: s.right,
-                    y: s.left,
-                });
-            }
-        }
-        None
+        first_inverted(v, self.place(v), star)
     }
 
     // Whether the edge from `v` to the node would be new, and is too long, where no neighbour of `v` but the
@@ -254,31 +247,61 @@ impl EdgeTable {
         least
     }
 
-    /// What the star of `u` says by itself.
-    pub fn rim(&self, u: u32, star: &[Spoke]) -> Rim
+    /// What the star of `u` says by itself, and that its nodes are close where that is told.
+    pub fn rim(&self, u: u32, star: &[Spoke], close: bool) -> Rim
         requires { AreInRange self.now.nodes.items }
-        ensures { (m : Undivided) → Shows self.now.sides self.now.nodes.items m → IsRim m u star.now result }
+        ensures rim { (m : Undivided) → Shows self.now.sides self.now.nodes.items m → (close ≡ true → AreClose m star.now) → IsRim m u star.now result }
+        ensures close { result.close ≡ close }
     {
         let first = first_right(star);
         let last = last_left(star).unwrap_or(0);
         let bent = self.is_bent(u, first, last);
-        Rim { first, last, bent }
+        Rim {
+            first,
+            last,
+            bent,
+            close,
+        }
     }
 
-    /// The conditions on the star of the node that goes, once what it says by itself is at hand.
-    pub fn rim_condition(
+    // The least of these neighbours of the node that goes to which a new edge from `v` would be too long, where
+    // none of them is a neighbour of `v` but the apices of the edge to `v`.
+    fn least_far(
         &self,
         bands: &[Band],
-        rings: &[Option<Ring>],
         v: u32,
         flanks: Flanks,
         rim: Rim,
+        names: &[u32],
+    ) -> Option<u32>
+        requires { AreInRange self.now.nodes.items }
+        ensures { (m : Undivided) (u : ℕ) (us : List Spoke) → IsConforming m → Shows self.now.sides self.now.nodes.items m → m.bands ≡ bands.now → AreFlanks m.tris u v flanks
+            → IsRim m u us rim → (rim.close ≡ true → is_neighbour v us ≡ true) → AreAround us names.now
+            → least_that (is_link_node m u v (spokes_of m v)) names.now ≡ None → result ≡ least_that (is_too_long m v (spokes_of m v)) names.now }
+    {
+        if rim.close {
+            return None;
+        }
+        self.least_long(bands, v, flanks, names)
+    }
+
+    /// The conditions on the star of the node that goes, once what it says by itself is at hand, and the least of
+    /// its neighbours that is a neighbour of `v` and no apex of the edge to `v`.
+    pub fn rim_condition(
+        &self,
+        bands: &[Band],
+        v: u32,
+        flanks: Flanks,
+        rim: Rim,
+        link: Option<u32>,
         star: &[Spoke],
         names: &[u32],
     ) -> Option<Cond>
         requires in_range { AreInRange self.now.nodes.items }
+        requires spots { All HasSpots star.now }
         ensures { (m : Undivided) (u : ℕ) → IsConforming m → Shows self.now.sides self.now.nodes.items m → m.bands ≡ bands.now → AreFlanks m.tris u v flanks
-            → AreRings m rings.now → IsRim m u star.now rim → AreAround star.now names.now → result ≡ first_of (star_clauses m u v star.now (spokes_of m v)) }
+            → star.now ≡ spokes_of m u → IsRim m u star.now rim → (rim.close ≡ true → is_neighbour v star.now ≡ true) → AreAround star.now names.now
+            → link ≡ least_that (is_link_node m u v (spokes_of m v)) names.now → result ≡ first_of (star_clauses m u v star.now (spokes_of m v)) }
     {
         if rim.bent {
             return Some(Cond::Corner);
@@ -286,13 +309,13 @@ impl EdgeTable {
         if rim.is_off(v) {
             return Some(Cond::OffBoundary);
         }
-        if let Some(x) = self.least_link(rings, v, flanks, names) {
+        if let Some(x) = link {
             return Some(Cond::LinkNode { x });
         }
-        if let Some(cond) = self.first_inverted(v, self.place(v), star) {
+        if let Some(cond) = self.first_turned_over(v, star) {
             return Some(cond);
         }
-        match self.least_long(bands, v, flanks, names) {
+        match self.least_far(bands, v, flanks, rim, names) {
             Some(x) => Some(Cond::TooLong {
                 a: v.min(x),
                 b: v.max(x),
@@ -313,22 +336,14 @@ impl EdgeTable {
     ) -> Option<Cond>
         requires in_range { AreInRange self.now.nodes.items }
         requires few { length star.now ≤ 60 }
+        requires spots { All HasSpots star.now }
         ensures { (m : Undivided) → IsConforming m → Shows self.now.sides self.now.nodes.items m → m.bands ≡ bands.now → AreFlanks m.tris u v flanks
-            → result ≡ first_of (star_clauses m u v star.now (spokes_of m v)) }
+            → star.now ≡ spokes_of m u → result ≡ first_of (star_clauses m u v star.now (spokes_of m v)) }
     {
         names_around(star, names);
-        let rim = self.rim(u, star);
-        self.rim_condition(bands, &[], v, flanks, rim, star, names.as_slice())
-    }
-
-    /// Whether `u` has few enough triangles, which are one cycle or one path. Then the lists have its star,
-    /// found by turning round `u` from its edge to `v`. The triangles at that edge are at hand. What the lists
-    /// held doesn't matter.
-    pub fn find_star(&self, u: u32, v: u32, flanks: Flanks, lists: &mut StarLists) -> bool
-        ensures { (m : Undivided) → IsConforming m → Shows self.now.sides self.now.nodes.items m → AreFlanks m.tris u v flanks
-            → is_edge m.tris u v ≡ true → result ≡ true → IsStar m u lists.new.star.items }
-    {
-        self.triangles(u) <= MOST_TRIANGLES && self.find_fan(u, v, flanks, &mut lists.star)
+        let rim = self.rim(u, star, false);
+        let link = self.least_link(v, flanks, names.as_slice());
+        self.rim_condition(bands, v, flanks, rim, link, star, names.as_slice())
     }
 
     /// The first condition that the contraction of `u` onto `v` fails, or `None` where it passes. Then the

@@ -3,8 +3,8 @@ ghost use Rattle.std.specs.Prelude.{◌≡◌, ℕ, List, min, max};
 ghost use Rattle.std.specs.Option.{option_map};
 ghost use Rattle.pf_model.specs.declared.Tri.{Tri};
 ghost use Rattle.pf_model.specs.Mesh.{Undivided, is_edge};
-ghost use Rattle.pf_mesh.specs.Flanks.{AreFlanks};
-ghost use Rattle.pf_mesh.specs.Table.{Shows, side_at, side_value};
+ghost use Rattle.pf_mesh.specs.Flanks.{AreFlanks, AreSides};
+ghost use Rattle.pf_mesh.specs.Table.{Shows, Sides, side_at, side_value};
 
 use crate::table::{EdgeTable, Left};
 
@@ -25,7 +25,8 @@ impl Flanks {
 
     /// Those of the edge from the lower to the higher of its ends `p` and `q`.
     pub fn rising(self, p: u32, q: u32) -> Flanks
-        ensures { (ts : List Tri) → AreFlanks ts p q self → AreFlanks ts (min p q) (max p q) result }
+        ensures shown { (ts : List Tri) → AreFlanks ts p q self → AreFlanks ts (min p q) (max p q) result }
+        ensures sides { (table : Sides) → AreSides table p q self → AreSides table (min p q) (max p q) result }
     {
         if p <= q {
             return self;

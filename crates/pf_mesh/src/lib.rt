@@ -17,7 +17,6 @@ mod operations;
 mod parts;
 mod relist;
 mod rest;
-mod ring;
 mod run;
 mod scratch;
 mod sites;

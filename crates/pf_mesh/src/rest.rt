@@ -9,24 +9,38 @@ ghost use Rattle.pf_model.specs.Lengths.{is_long};
 ghost use Rattle.pf_model.specs.Wishes.{acting_chunk, long_lines, short_lines, flip_lines, rest_of, terminal_of};
 ghost use Rattle.pf_mesh.specs.Lengths.{span_value};
 ghost use Rattle.pf_mesh.specs.declared.rest.edges.Sided.{Sided};
-ghost use Rattle.pf_mesh.specs.Rest.{AreAtEnds, IsEnd, IsListed, IsSided, listed, sided_edge};
+ghost use Rattle.pf_mesh.specs.Rest.{AreAtEnds, AreEdges, AreSided, IsEnd, IsListed, IsSided, listed, sided_edge};
 ghost use Rattle.pf_mesh.specs.Table.{AreInRange, Shows};
 
+mod around;
+mod close;
+mod crossed;
 mod edges;
 mod known;
+mod links;
 mod short;
 mod told;
 mod walks;
 
 use crate::lengths::Span;
+use crate::rest::around::Around;
 use crate::rest::edges::{Edges, Sided};
 use crate::rest::known::End;
 use crate::rest::told::Notes;
-use crate::scratch::StarLists;
 use crate::table::EdgeTable;
 use pf_geom::NoMemory;
 use pf_model::{Band, RestLine, Tri};
 use std::alloc::Global;
+
+// An empty list with room for so many elements. Its memory is taken as it is filled.
+fn with_room<T>(alloc: Global, elements: usize) -> Result<Vec<T>, NoMemory>
+    ensures { IfOk result (λ list. list.items ≡ []) }
+{
+    match Vec::with_capacity(alloc, elements) {
+        Ok(list) => Ok(list),
+        Err(_) => Err(NoMemory),
+    }
+}
 
 // Appends a line.
 fn push_line(lines: &mut Vec<RestLine>, line: Option<RestLine>) -> Result<(), NoMemory>
@@ -153,13 +167,13 @@ impl EdgeTable {
     ) -> Result<(), NoMemory>
         requires in_range { AreInRange self.now.nodes.items }
         requires listed { All (IsListed self.now.sides) edges.now.list.items }
-        ensures { OnOk result ((m : Undivided) → IsConforming m → Shows self.now.sides self.now.nodes.items m → m.bands ≡ bands.now
+        ensures { OnOk result ((m : Undivided) → IsConforming m → Shows self.now.sides self.now.nodes.items m → m.bands ≡ bands.now → AreEdges m edges.now
             → lines.new.items ≡ lines.old.items ++ flat_map (short_lines m) (map sided_edge edges.now.list.items)) }
     {
-        let mut notes = Notes::new(alloc);
-        let mut lists = StarLists::new();
+        let mut notes = Notes::new(alloc, bands);
+        let mut around = Around::new();
         for place in 0..edges.list.len() {
-            self.push_short_at(lines, bands, edges, &mut notes, &mut lists, place)?;
+            self.push_short_at(alloc, lines, bands, edges, &mut notes, &mut around, place)?;
         }
         Ok(())
     }
@@ -184,12 +198,13 @@ impl EdgeTable {
         tris: &[Tri],
         bands: &[Band],
     ) -> Result<Vec<RestLine>, NoMemory>
-        requires { AreInRange self.now.nodes.items }
+        requires in_range { AreInRange self.now.nodes.items }
+        requires sided { AreSided self.now.sides tris.now }
         ensures { IfOk result (λ lines. (m : Undivided) → IsConforming m → Shows self.now.sides self.now.nodes.items m
             → m.tris ≡ tris.now → m.bands ≡ bands.now → lines.items ≡ rest_of m) }
     {
         let edges = self.edges(alloc, tris)?;
-        let mut lines = Vec::new(alloc);
+        let mut lines = with_room(alloc, edges.list.len())?;
         self.push_long(alloc, &mut lines, bands, &edges)?;
         self.push_short(alloc, &mut lines, bands, &edges)?;
         self.push_flips(&mut lines, &edges.list)?;

@@ -1,5 +1,5 @@
 //! The star of a node: its triangles, found by turning round the node from one of its edges.
-ghost use Rattle.std.specs.Prelude.{◌≡◌, ℕ, ◌+◌, ◌<◌, ◌≤◌, ◌==◌, ◌||◌, insert, length, Option, true, []};
+ghost use Rattle.std.specs.Prelude.{◌≡◌, ℕ, ◌+◌, ◌<◌, ◌≤◌, ◌==◌, ◌||◌, insert, length, All, IfSome, Option, true, []};
 ghost use Rattle.std.specs.List.{list_any};
 ghost use Rattle.std.specs.Option.{option_map};
 ghost use Rattle.arrayvec.specs.ArrayVec.{array_vec_len};
@@ -7,9 +7,9 @@ ghost use Rattle.pf_model.specs.Rising.{insert_by};
 ghost use Rattle.pf_model.specs.Mesh.{Undivided, is_edge};
 ghost use Rattle.pf_model.specs.Conforming.{IsConforming};
 ghost use Rattle.pf_model.specs.Stars.{spoke_lt, spokes_of, path_start, path_end};
-ghost use Rattle.pf_mesh.specs.Table.{Shows, side_at, side_value, triangles_at};
+ghost use Rattle.pf_mesh.specs.Table.{AreInRange, Shows, side_at, side_value, triangles_at};
 ghost use Rattle.pf_mesh.specs.Flanks.{AreFlanks};
-ghost use Rattle.pf_mesh.specs.Star.{has_right, IsSpokeOn, IsSpokeBefore, IsChain, IsChainToLeft, IsTurned, IsFan};
+ghost use Rattle.pf_mesh.specs.Star.{has_right, HasSpots, IsSpokeOn, IsSpokeBefore, IsChain, IsChainToLeft, IsTurned, IsFan};
 
 use crate::flanks::Flanks;
 use crate::table::{EdgeTable, Left};
@@ -82,6 +82,7 @@ fn put_spoke(spokes: &mut Spokes, spoke: Spoke)
     requires { array_vec_len spokes.old < 60 }
     ensures items { spokes.new.items ≡ insert_by spoke_lt spoke spokes.old.items }
     ensures len { array_vec_len spokes.new ≡ array_vec_len spokes.old + 1 }
+    ensures spots { HasSpots spoke → All HasSpots spokes.old.items → All HasSpots spokes.new.items }
 {
     let at = place_of_spoke(spokes.as_slice(), spoke);
     spokes.insert(at, spoke);
@@ -99,10 +100,11 @@ impl EdgeTable {
         }
     }
 
-    // The triangle with this right corner that stands at the side, as a spoke of its third corner.
-    fn spoke_with(&self, right: u32, side: Option<Left>) -> Option<Spoke>
-        ensures { (m : Undivided) (u : ℕ) → IsConforming m → Shows self.now.sides self.now.nodes.items m
+    /// The triangle with this right corner that stands at the side, as a spoke of its third corner.
+    pub fn spoke_with(&self, right: u32, side: Option<Left>) -> Option<Spoke>
+        ensures found { (m : Undivided) (u : ℕ) → IsConforming m → Shows self.now.sides self.now.nodes.items m
             → option_map side_value side ≡ side_at self.now.sides u right → IsSpokeOn (spokes_of m u) right result }
+        ensures spots { AreInRange self.now.nodes.items → IfSome result HasSpots }
     {
         match side {
             Some(side) => Some(Spoke {
@@ -118,8 +120,9 @@ impl EdgeTable {
 
     // The triangle with this left corner that stands at the side, as a spoke of its third corner.
     fn spoke_before(&self, left: u32, side: Option<Left>) -> Option<Spoke>
-        ensures { (m : Undivided) (u : ℕ) → IsConforming m → Shows self.now.sides self.now.nodes.items m
+        ensures found { (m : Undivided) (u : ℕ) → IsConforming m → Shows self.now.sides self.now.nodes.items m
             → option_map side_value side ≡ side_at self.now.sides left u → IsSpokeBefore (spokes_of m u) left result }
+        ensures spots { AreInRange self.now.nodes.items → IfSome result HasSpots }
     {
         match side {
             Some(side) => Some(Spoke {
@@ -136,8 +139,9 @@ impl EdgeTable {
     // Puts the triangles at `u` that have its edge to `v`, which stand at the flanks, into an empty list.
     fn put_flanks(&self, v: u32, flanks: Flanks, found: &mut Spokes) -> Ends
         requires { found.old.items ≡ [] }
-        ensures { (m : Undivided) (u : ℕ) → IsConforming m → Shows self.now.sides self.now.nodes.items m → AreFlanks m.tris u v flanks
+        ensures found { (m : Undivided) (u : ℕ) → IsConforming m → Shows self.now.sides self.now.nodes.items m → AreFlanks m.tris u v flanks
             → is_edge m.tris u v ≡ true → IsChain (spokes_of m u) found.new.items result.first result.last }
+        ensures spots { AreInRange self.now.nodes.items → All HasSpots found.new.items }
     {
         let before = self.spoke_before(v, flanks.right);
         let Some(on) = self.spoke_with(v, flanks.left) else {
@@ -168,8 +172,9 @@ impl EdgeTable {
     // where they begin. Gives where they begin and end then.
     fn turn_left(&self, u: u32, ends: Ends, most: usize, found: &mut Spokes) -> Ends
         requires { most ≤ 60 }
-        ensures { (m : Undivided) → IsConforming m → Shows self.now.sides self.now.nodes.items m → length (spokes_of m u) ≡ most
+        ensures found { (m : Undivided) → IsConforming m → Shows self.now.sides self.now.nodes.items m → length (spokes_of m u) ≡ most
             → IsChain (spokes_of m u) found.old.items ends.first ends.last → IsChainToLeft (spokes_of m u) found.new.items result.first result.last }
+        ensures spots { AreInRange self.now.nodes.items → All HasSpots found.old.items → All HasSpots found.new.items }
     {
         let Ends { first, last } = ends;
         let mut right = last;
@@ -187,8 +192,9 @@ impl EdgeTable {
     // to where they end.
     fn turn_right(&self, u: u32, ends: Ends, most: usize, found: &mut Spokes)
         requires { most ≤ 60 }
-        ensures { (m : Undivided) → IsConforming m → Shows self.now.sides self.now.nodes.items m → length (spokes_of m u) ≡ most
+        ensures found { (m : Undivided) → IsConforming m → Shows self.now.sides self.now.nodes.items m → length (spokes_of m u) ≡ most
             → IsChainToLeft (spokes_of m u) found.old.items ends.first ends.last → IsTurned (spokes_of m u) found.new.items }
+        ensures spots { AreInRange self.now.nodes.items → All HasSpots found.old.items → All HasSpots found.new.items }
     {
         let Ends { first, last } = ends;
         let mut left = first;
@@ -207,8 +213,9 @@ impl EdgeTable {
     /// doesn't matter.
     pub fn find_fan(&self, u: u32, v: u32, flanks: Flanks, star: &mut Spokes) -> bool
         requires narrow { triangles_at self.now.nodes.items u ≤ 60 }
-        ensures { (m : Undivided) → IsConforming m → Shows self.now.sides self.now.nodes.items m → AreFlanks m.tris u v flanks
+        ensures found { (m : Undivided) → IsConforming m → Shows self.now.sides self.now.nodes.items m → AreFlanks m.tris u v flanks
             → is_edge m.tris u v ≡ true → IsFan (spokes_of m u) result star.new.items }
+        ensures spots { AreInRange self.now.nodes.items → All HasSpots star.new.items }
     {
         let most = self.triangles(u) as usize;
         star.clear();

@@ -116,14 +116,14 @@ directed_edges_of-different (t ∷ ts) s =
     (λ e h k. let r = directed_edges_of-means ts e k in s.different.0 r.0 r.1 (s.once t r.0 e.from e.to (here t ts) (there r.0 t ts r.1) (directed_edges_in-means e t h) r.2))
 
 -- whether an edge has a triangle on its left
-has_left : (ts : List Tri) (e : DirectedEdge) → Contains (directed_edges_of ts) e → is_some (side_of ts e.from e.to) ≡ true
+pub has_left : (ts : List Tri) (e : DirectedEdge) → Contains (directed_edges_of ts) e → is_some (side_of ts e.from e.to) ≡ true
 has_left ts e h = go (side_of ts e.from e.to) refl
   where
     go : (o : Option Side) → side_of ts e.from e.to ≡ o → is_some o ≡ true
     go None f = absurd (let r = directed_edges_of-means ts e h in let n = side_of-none ts e.from e.to f r.0 r.1 in let k : true ≡ false = sym r.2 ∙ n in cc)
     go (Some s) f = refl
 
-left_has : (ts : List Tri) (e : DirectedEdge) → is_some (side_of ts e.from e.to) ≡ true → Contains (directed_edges_of ts) e
+pub left_has : (ts : List Tri) (e : DirectedEdge) → is_some (side_of ts e.from e.to) ≡ true → Contains (directed_edges_of ts) e
 left_has ts e h = go (side_of ts e.from e.to) refl h
   where
     go : (o : Option Side) → side_of ts e.from e.to ≡ o → is_some o ≡ true → Contains (directed_edges_of ts) e

@@ -6,10 +6,11 @@ ghost use Rattle.pf_model.specs.Lengths.{Edge};
 ghost use Rattle.pf_mesh.specs.declared.rest.edges.Sided.{Sided};
 ghost use Rattle.pf_mesh.specs.Rest.{sided_edge, told_of, AreTold, AreNotes};
 
+use crate::rest::around::{Chains, chains_of};
+use crate::rest::close::strictest;
 use crate::rest::edges::Edges;
-use crate::ring::{Ring, make_rings};
 use pf_geom::NoMemory;
-use pf_model::Cond;
+use pf_model::{Band, Cond};
 use std::alloc::Global;
 
 /// The first condition that a contraction fails, or that it fails none.
@@ -19,10 +20,12 @@ pub struct Told {
 }
 
 /// For the edge at each place, what its contraction onto the higher end and onto the lower one fails, where
-/// that was worked out, and the neighbours of nodes whose contractions were.
+/// that was worked out; and what it is worked out with: where the edges that end at each node stand, and a
+/// squared length that no band forbids.
 #[derive(Drop)]
 pub struct Notes {
-    pub rings: Vec<Option<Ring>>,
+    pub chains: Chains,
+    pub limit: i64,
     pub onto_hi: Vec<Option<Told>>,
     pub onto_lo: Vec<Option<Told>>,
 }
@@ -65,21 +68,25 @@ pub fn note(told: &mut Vec<Option<Told>>, place: usize, cond: Option<Cond>)
 
 impl Notes {
     /// No notes.
-    pub fn new(alloc: Global) -> Notes
-        ensures { (m : Undivided) (edges : List Sided) → AreNotes m edges result }
+    pub fn new(alloc: Global, bands: &[Band]) -> Notes
+        ensures { (m : Undivided) (edges : List Sided) → m.bands ≡ bands.now → AreNotes m edges result }
     {
         Notes {
-            rings: Vec::new(alloc),
+            chains: Chains::new(alloc),
+            limit: strictest(bands),
             onto_hi: Vec::new(alloc),
             onto_lo: Vec::new(alloc),
         }
     }
 
-    /// Makes room for what is noted of these edges and of so many names, where there is none yet.
-    pub fn reserve(&mut self, edges: &Edges, names: usize) -> Result<(), NoMemory>
+    /// Makes room for what is noted of these edges, where there is none yet.
+    pub fn reserve(&mut self, alloc: Global, edges: &Edges, names: usize) -> Result<(), NoMemory>
         ensures { OnOk result ((m : Undivided) (edges : List Sided) → AreNotes m edges self.old → AreNotes m edges self.new) }
     {
-        make_rings(&mut self.rings, names)?;
+        if !self.onto_hi.is_empty() {
+            return Ok(());
+        }
+        self.chains = chains_of(alloc, &edges.list, names)?;
         make_room(&mut self.onto_hi, edges.list.len())?;
         make_room(&mut self.onto_lo, edges.list.len())?;
         Ok(())

@@ -17,7 +17,7 @@ returns c = λ m n ok flanks.
     let hi = c.max-hi.result in
     let l = side_value c.in-Some.left in
     let r = side_value c.in-Some-right.right in
-    let rising = c.rising-rising.ensures m.tris flanks in
+    let rising = c.rising-rising.ensures.shown m.tris flanks in
     let left : side_of m.tris lo hi ≡ Some l =
     ap (λ (i : ℕ). side_of m.tris i hi) c.min-lo.ensures ∙ (ap (side_of m.tris (min a b)) c.max-hi.ensures ∙ (sym rising.on_left ∙ ap (option_map side_value) c.in-Some.is))
     in

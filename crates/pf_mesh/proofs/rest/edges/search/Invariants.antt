@@ -1,8 +1,12 @@
 use Rattle.std.proofs.Common.{◌-◌, ◌≤◌, length}
+use Rattle.pf_mesh.specs.Lengths.{span_value}
+use Rattle.pf_mesh.specs.Rest.{AreRising, IsOnlyIn}
 use Rattle.pf_mesh.proofs.rest.edges.search.Given as goal
 
 abbrev pub invariant-halve : goal.invariant-halve
-invariant-halve l = l.to ≤ length l.edges
+invariant-halve l =
+    (l.end ≤ length l.edges)
+    × (AreRising l.edges → IsOnlyIn l.edges (span_value l.e) l.fn.from l.fn.to → IsOnlyIn l.edges (span_value l.e) l.first l.end)
 
 abbrev pub decreases-halve : goal.decreases-halve
-decreases-halve l = l.to - l.from
+decreases-halve l = l.end - l.first

@@ -14,19 +14,19 @@ returns-then-triangles-gt-MOST_TRIANGLES-clause-cond c = λ m ok s bands.
 pub returns-then-not-find_fan-clause-cond : goal.returns-then-not-find_fan-clause-cond
 returns-then-not-find_fan-clause-cond c = λ m ok s bands.
     let pass = c.in_default.ensures m (c.flanks-flanks.ensures.sides m s) in
-    let fan = c.find_fan.ensures m ok s (c.flanks-flanks.ensures.sides m s) (edge-there m c.args.chunk c.args.u c.args.v pass) in
+    let fan = c.find_fan.ensures.found m ok s (c.flanks-flanks.ensures.sides m s) (edge-there m c.args.chunk c.args.u c.args.v pass) in
     pinched m c.args.chunk c.args.u c.args.v pass c.triangles.result (counted c.args.self.now.sides c.args.self.now.nodes.items m s c.args.u c.triangles.result c.triangles.ensures) c.if-triangles-gt-MOST_TRIANGLES.false (sym fan.told ∙ c.if-not-find_fan.true)
 
 pub returns-clause-cond : goal.returns-clause-cond
 returns-clause-cond c = λ m ok s bands.
     let flanks = c.flanks-flanks.ensures.sides m s in
     let pass = c.in_default.ensures m flanks in
-    let fan = c.find_fan.ensures m ok s (c.flanks-flanks.ensures.sides m s) (edge-there m c.args.chunk c.args.u c.args.v pass) in
-    c.star_condition.ensures m ok s bands flanks
+    let fan = c.find_fan.ensures.found m ok s (c.flanks-flanks.ensures.sides m s) (edge-there m c.args.chunk c.args.u c.args.v pass) in
+    c.star_condition.ensures m ok s bands flanks (c.deref.ensures.0 ∙ fan.whole c.if-not-find_fan.false)
     ∙ (ap (λ l. first_of (star_clauses m c.args.u c.args.v l (spokes_of m c.args.v))) (c.deref.ensures.0 ∙ fan.whole c.if-not-find_fan.false)
     ∙ by-star m c.args.chunk c.args.u c.args.v pass c.triangles.result (counted c.args.self.now.sides c.args.self.now.nodes.items m s c.args.u c.triangles.result c.triangles.ensures) c.if-triangles-gt-MOST_TRIANGLES.false (sym fan.told ∙ c.if-not-find_fan.false))
 
 pub returns-clause-star : goal.returns-clause-star
 returns-clause-star c = λ m ok s none.
     let pass = c.in_default.ensures m (c.flanks-flanks.ensures.sides m s) in
-    (c.find_fan.ensures m ok s (c.flanks-flanks.ensures.sides m s) (edge-there m c.args.chunk c.args.u c.args.v pass)).whole c.if-not-find_fan.false
+    (c.find_fan.ensures.found m ok s (c.flanks-flanks.ensures.sides m s) (edge-there m c.args.chunk c.args.u c.args.v pass)).whole c.if-not-find_fan.false

@@ -1,13 +1,19 @@
-use Rattle.std.proofs.Common.{sym, ◌∙◌, ap, subst}
-use Rattle.pf_model.specs.Rising.{AreDifferent, sorted_by}
-use Rattle.pf_model.specs.Sums.{edge_lt}
+use Rattle.std.proofs.Common.{sym, subst}
+use Rattle.pf_model.specs.Mesh.{directed_edges_of}
+use Rattle.pf_mesh.specs.Rest.{AreRising, AreStarts, counted_in}
 use Rattle.pf_mesh.proofs.SpanLemmas.{counted-different}
+use Rattle.pf_mesh.proofs.EdgeSearch.{edges-rise}
 use Rattle.pf_mesh.proofs.table.EdgeTable.edges.Goals as goal
 
 pub returns-clause-all : goal.returns-clause-all
-returns-clause-all c = λ m ok s e.
-    let met = c.in_ok-list.ensures.counted m s e in
-    c.sort_edges.ensures.sorted (subst (λ es. AreDifferent es) (sym met) (counted-different m ok)) ∙ ap (sorted_by edge_lt) met
+returns-clause-all c = λ m ok s e. c.in_ok-sort_edges.ensures.sorted (counted_in m.tris (directed_edges_of m.tris)) (counted-different m ok) (c.in_ok-list.ensures.counted m s e)
 
 pub returns-clause-listed : goal.returns-clause-listed
-returns-clause-listed c = c.sort_edges.ensures.listed c.args.self.now.sides c.in_ok-list.ensures.listed
+returns-clause-listed c = c.in_ok-sort_edges.ensures.listed c.args.self.now.sides c.in_ok-list.ensures.listed
+
+pub returns-clause-are : goal.returns-clause-are
+returns-clause-are c = λ m ok s e.
+    let all = returns-clause-all c m ok s e in
+    let rising = edges-rise m ok c.sort_edges.new.edges.items all in
+    let starts = c.in_ok-starts.ensures (subst (λ l. AreRising l) (sym c.deref.ensures.value) rising) in
+    record { all = all; starts = subst (λ l. AreStarts l c.in_ok-starts.starts.items) c.deref.ensures.value starts }

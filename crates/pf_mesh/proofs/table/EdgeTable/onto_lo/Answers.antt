@@ -6,17 +6,17 @@ use Rattle.pf_mesh.proofs.EdgeSpots.{listed-at}
 use Rattle.pf_mesh.proofs.table.EdgeTable.onto_lo.Goals as goal
 
 pub returns-in-Some-clause-cond : goal.returns-in-Some-clause-cond
-returns-in-Some-clause-cond c = λ m e ok s b are at.
+returns-in-Some-clause-cond c = λ m e ok s b es are at.
     let list = c.args.edges.now.list.items in
     c.in-Some.ensures m list onto_lo e (subst (λ l. AreTold m list onto_lo l) (sym c.deref.ensures.value) are.lo) at
 
 pub returns-in-Some-noted-clause-cond : goal.returns-in-Some-noted-clause-cond
-returns-in-Some-noted-clause-cond c = λ m e ok s b are at.
+returns-in-Some-noted-clause-cond c = λ m e ok s b es are at.
     let list = c.args.edges.now.list.items in
-    c.in-Some-noted.ensures m list onto_lo e (subst (λ l. AreTold m list onto_lo l) (sym c.deref-2.ensures.value) (c.note_all.ensures m ok s b are).lo) at
+    c.in-Some-noted.ensures m list onto_lo e (subst (λ l. AreTold m list onto_lo l) (sym c.deref-2.ensures.value) (c.note_all.ensures m ok s b es are).lo) at
 
 pub returns-clause-cond : goal.returns-clause-cond
-returns-clause-cond c = λ m e ok s b are at.
+returns-clause-cond c = λ m e ok s b es are at.
     let list = c.args.edges.now.list.items in
     let first = c.index-e.result.now in
     let sided = (listed-at c.args.self.now.sides list c.args.place first c.requires.listed c.requires.place c.index-e.ensures).sided in

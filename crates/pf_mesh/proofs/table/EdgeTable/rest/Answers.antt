@@ -10,5 +10,5 @@ pub returns : goal.returns
 returns c = λ m ok s ts bs.
     let all = c.in_ok-edges.ensures.all m ok s ts in
     let third : map sided_edge c.deref.result.now ≡ edges_of m = ap (map sided_edge) c.deref.ensures.value ∙ all in
-    three_parts _ _ _ _ _ _ _ c.new-lines.ensures.items (c.in_ok-push_long.ensures m ok s bs) (c.in_ok-push_short.ensures m ok s bs) (c.in_ok-push_flips.ensures m ok s)
+    three_parts _ _ _ _ _ _ _ c.in_ok-lines.ensures (c.in_ok-push_long.ensures m ok s bs) (c.in_ok-push_short.ensures m ok s bs (c.in_ok-edges.ensures.are m ok s ts)) (c.in_ok-push_flips.ensures m ok s)
     ∙ (λ i. flat_map (long_lines m) (all i) ++ (flat_map (short_lines m) (all i) ++ flat_map (flip_lines m) (third i)))

@@ -1,11 +1,21 @@
-use Rattle.std.proofs.Common.{sym, ◌∙◌, ap}
+use Rattle.std.proofs.Common.{sym, ◌∙◌, ap, subst}
 use Rattle.std.specs.Option.{option_map}
+use Rattle.pf_geom.specs.Plane.{IsInRange}
 use Rattle.pf_mesh.specs.Table.{side_value}
 use Rattle.pf_mesh.proofs.StarSpokes.{spoke-on, spoke-on_not}
+use Rattle.pf_mesh.proofs.StarSpots.{spot-in_range}
 use Rattle.pf_mesh.proofs.table.EdgeTable.spoke_with.Goals as goal
 
-pub returns-in-Some : goal.returns-in-Some
-returns-in-Some c = λ m u ok s side. spoke-on c.args.self.now.sides c.args.self.now.nodes.items m ok s u c.args.right c.in-Some.side.apex c.in-Some.side.owner c.spot.result c.spot-in-Some.result (sym (ap (option_map side_value) c.in-Some.is) ∙ side) c.spot.ensures c.spot-in-Some.ensures
+pub returns-in-Some-clause-found : goal.returns-in-Some-clause-found
+returns-in-Some-clause-found c = λ m u ok s side. spoke-on c.args.self.now.sides c.args.self.now.nodes.items m ok s u c.args.right c.in-Some.side.apex c.in-Some.side.owner c.spot.result c.spot-in-Some.result (sym (ap (option_map side_value) c.in-Some.is) ∙ side) c.spot.ensures c.spot-in-Some.ensures
 
-pub returns-in-None : goal.returns-in-None
-returns-in-None c = λ m u ok s side. spoke-on_not c.args.self.now.sides c.args.self.now.nodes.items m ok s u c.args.right (sym (ap (option_map side_value) c.in-None.is) ∙ side)
+pub returns-in-None-clause-found : goal.returns-in-None-clause-found
+returns-in-None-clause-found c = λ m u ok s side. spoke-on_not c.args.self.now.sides c.args.self.now.nodes.items m ok s u c.args.right (sym (ap (option_map side_value) c.in-None.is) ∙ side)
+
+pub returns-in-Some-clause-spots : goal.returns-in-Some-clause-spots
+returns-in-Some-clause-spots c = λ range.
+    let nodes = c.args.self.now.nodes.items in
+    record {
+      right = subst (λ p. IsInRange p) (sym c.spot.ensures) (spot-in_range nodes c.args.right range);
+      left = subst (λ p. IsInRange p) (sym c.spot-in-Some.ensures) (spot-in_range nodes c.in-Some.side.apex range);
+    }
