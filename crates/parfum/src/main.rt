@@ -9,7 +9,8 @@ use std::env;
 use std::io::ErrorKind;
 use std::process::ExitCode;
 
-const WORDS_REFUSED: &[u8] = b"parfum: words refused\n";
+/// The status where the system doesn't give the words as text. Nothing is said then.
+const WORDS_REFUSED: u8 = 2;
 
 const NO_MEMORY: &[u8] = b"parfum: out of memory\n";
 
@@ -18,17 +19,17 @@ fn main(rt: HostRuntime) -> ExitCode {
         Ok(words) => words,
         Err(error) => {
             return match error.kind() {
-                ErrorKind::OutOfMemory => end(&rt, NO_MEMORY, 5),
-                _ => end(&rt, WORDS_REFUSED, 2),
+                ErrorKind::OutOfMemory => end(&rt),
+                _ => ExitCode::from(WORDS_REFUSED),
             };
         }
     };
     let Ok(words) = words.skip(1).collect::<Vec<String>>(rt.alloc()) else {
-        return end(&rt, NO_MEMORY, 5);
+        return end(&rt);
     };
     match run_words(&rt, &words) {
         Ok(status) => ExitCode::from(status),
-        Err(_) => end(&rt, NO_MEMORY, 5),
+        Err(_) => end(&rt),
     }
 }
 
@@ -43,10 +44,10 @@ fn run_words(rt: &HostRuntime, texts: &[String]) -> Result<u8, AllocError> {
     Ok(run(rt.alloc(), &words, &mut shelf, &mut out))
 }
 
-// Says why no run could begin: the system's words aren't text, or memory ran out.
-fn end(rt: &HostRuntime, line: &[u8], status: u8) -> ExitCode {
-    match say_all(&mut StdSink::new(rt), line) {
-        Ok(()) => ExitCode::from(status),
+// Says that memory ran out before a run could begin.
+fn end(rt: &HostRuntime) -> ExitCode {
+    match say_all(&mut StdSink::new(rt), NO_MEMORY) {
+        Ok(()) => ExitCode::from(5),
         Err(WriteErr::Fault) => ExitCode::from(4),
     }
 }

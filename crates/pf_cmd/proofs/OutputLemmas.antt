@@ -3,6 +3,9 @@ use Rattle.std.proofs.Common.{◌≡◌, ◌≢◌, ℕ, zero, suc, ◌+◌, ◌
 use Rattle.std.specs.Str.{bytes_eq}
 use Rattle.std.proofs.lemmas.Bool.Decides.{not_from_Decides}
 use Rattle.std.proofs.lemmas.Slice.Eq.{bytes_eq-Decides}
+use Rattle.pf_say.specs.declared.place.Place.{Place}
+use Rattle.pf_say.specs.Place.{Stems, name_of}
+use Rattle.pf_cmd.specs.Commands.{AreUnnamed}
 use Rattle.pf_cmd.specs.declared.output.OutFile.{OutFile}
 use Rattle.pf_cmd.specs.Output.{NamedText, named_text, with_file, written, IsNoneOf}
 
@@ -42,9 +45,14 @@ none-at files name k item h e none = subst (λ x. bytes_eq name (named_text x).n
     go (f ∷ fs) zero h none = none.0
     go (f ∷ fs) (suc k) h none = go fs k (let l : suc k < suc (length fs) = h in omega arith) none.1
 
--- a name that is none of three
-pub none-of-three : (f g h : NamedText) (name : List ℕ) → name ≢ f.name → name ≢ g.name → name ≢ h.name → IsNoneOf (f ∷ g ∷ h ∷ []) name
-none-of-three f g h name p q r = (differs name f.name p, (differs name g.name q, (differs name h.name r, tt)))
+-- a name that is that of no place isn't that of any of the files with these names
+pub none-of : (stems : Stems) (places : List Place) (files : List NamedText) (name : List ℕ) → map (λ file. file.name) files ≡ map (name_of stems) places → AreUnnamed stems places name → IsNoneOf files name
+none-of stems places [] name e h = tt
+none-of stems [] (file ∷ files) name e h = absurd (let k = e in cc)
+none-of stems (place ∷ places) (file ∷ files) name e h =
+    let first : file.name ≡ name_of stems place = (let k = e in cc) in
+    let others : map (λ file. file.name) files ≡ map (name_of stems) places = (let k = e in cc) in
+    (differs name file.name (λ q. h.0 (q ∙ first)), none-of stems places files name others h.1)
   where
     differs : (a b : List ℕ) → a ≢ b → bytes_eq a b ≡ false
     differs a b ne = go (bytes_eq a b) refl

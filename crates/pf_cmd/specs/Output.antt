@@ -2,15 +2,10 @@
 use Rattle.std.specs.Prelude.{◌≡◌, ℕ, List, [], ◌∷◌, false, map, Option, Some, if◌then◌else◌}
 use Rattle.std.specs.Str.{bytes_eq}
 use Rattle.std.specs.String.{string_bytes}
-use Rattle.pf_model.specs.Texts.{mesh_node_text, mesh_ele_text, replay_report, check_report}
-use Rattle.pf_tables.specs.Part.{part_text_of}
-use Rattle.pf_cmd.specs.declared.place.Place.{Place}
-use Rattle.pf_cmd.specs.declared.place.Place.TheVariants.{OutNode, OutEle, OutPart}
+use Rattle.pf_say.specs.declared.place.Place.{Place}
+use Rattle.pf_say.specs.Place.{Stems, name_of}
 use Rattle.pf_cmd.specs.declared.output.OutFile.{OutFile}
 use Rattle.pf_cmd.specs.declared.output.Output.{Output}
-use Rattle.pf_cmd.specs.Place.{Stems, name_of}
-use Rattle.pf_cmd.specs.Input.{Parted}
-use Rattle.pf_cmd.specs.Replay.{Replayed}
 
 -- a text, and the file that it is for
 pub record NamedText : Type 0 where
@@ -34,22 +29,6 @@ given_of output = record { writes = map named_text output.files.items; report = 
 -- the text of a mesh for a file of this place
 abbrev pub written_to : Stems → Place → List ℕ → NamedText
 written_to stems place text = record { place = place; name = name_of stems place; text = text }
-
--- what a replay gives
-abbrev pub replay_given : Stems → Replayed → Given
-replay_given stems replayed =
-    record {
-      writes =
-          written_to stems OutNode (mesh_node_text replayed.base replayed.mesh)
-          ∷ written_to stems OutEle (mesh_ele_text replayed.base replayed.mesh)
-          ∷ written_to stems OutPart (part_text_of replayed.mesh.tris)
-          ∷ [];
-      report = replay_report replayed.operations replayed.mesh;
-    }
-
--- what a check gives
-abbrev pub check_given : Parted → Given
-check_given parted = record { writes = []; report = check_report parted.parts.chunks parted.listed.mesh }
 
 -- the files by their names, with one of them written
 abbrev pub with_file : NamedText → (List ℕ → Option (List ℕ)) → List ℕ → Option (List ℕ)

@@ -1,76 +1,97 @@
 -- What a run did, from its words to its status.
-use Rattle.std.specs.Prelude.{◌≡◌, ℕ, List, Option, Some, None, Result, Ok, Err, codes, ◌⊎◌}
+use Rattle.std.specs.Prelude.{◌≡◌, ◌<◌, ℕ, List, Option, Some, None, Err, codes, ◌⊎◌}
 use Rattle.pf_shelf.specs.Count.{Rose}
-use Rattle.pf_shelf.specs.Files.{Tells, held, IsAsBefore}
+use Rattle.pf_shelf.specs.Files.{Tells}
+use Rattle.pf_shelf.specs.Seen.{Seen, Heard}
 use Rattle.pf_shelf.specs.Sink.{extended, GainsPrefix}
-use Rattle.pf_cmd.specs.declared.place.Place.{Place}
-use Rattle.pf_cmd.specs.declared.stop.Stop.{Stop}
-use Rattle.pf_cmd.specs.declared.stop.Stop.TheVariants.{Unwritten}
-use Rattle.pf_cmd.specs.Words.{Command, command_of}
-use Rattle.pf_cmd.specs.Faults.{memory_text}
-use Rattle.pf_cmd.specs.Stop.{status_of, line_of}
-use Rattle.pf_cmd.specs.Output.{Given}
-use Rattle.pf_cmd.specs.Causes.{Seen, IsOnlyRead}
-use Rattle.pf_cmd.specs.Ends.{stems_in, given_by, IsUnwritten, IsDone, IsHalted, Ends, IsSaid}
+use Rattle.pf_say.specs.declared.place.Place.{Place}
+use Rattle.pf_say.specs.declared.stop.Trouble.TheVariants.{Missing, Unread, Unwritten}
+use Rattle.pf_say.specs.declared.stop.Stop.{Stop}
+use Rattle.pf_say.specs.declared.stop.Stop.TheVariants.{Device}
+use Rattle.pf_say.specs.Stop.{status_of, line_of}
+use Rattle.pf_cmd.specs.Words.{command_of}
+use Rattle.pf_cmd.specs.Input.{files_in, without}
+use Rattle.pf_cmd.specs.Causes.{IsOnlyRead, IsQuiet, IsAmong}
+use Rattle.pf_cmd.specs.Commands.{Command, input_in, reads_of}
+use Rattle.pf_cmd.specs.Ends.{IsDone, Finishes, IsHalted, Stops}
 
 -- that the words are in no command's form
 abbrev pub words_text : List ℕ
 words_text = codes "parfum: words refused\n"
 
--- what contracts see of a sink
-pub record Heard : Type 0 where
-  pub faults : ℕ
-  pub told : Option (List ℕ)
+-- the text was said whole, and the status is this; or the sink failed, gained a prefix of the text, and the status is 4
+abbrev pub IsSaid : ℕ → List ℕ → Heard → Heard → ℕ → Type 0
+IsSaid status text silent heard result = ((result ≡ status) × (heard.told ≡ extended silent.told text) × (heard.faults ≡ silent.faults)) ⊎ ((result ≡ 4) × Rose silent.faults heard.faults × GainsPrefix text silent.told heard.told)
 
--- the text was said, with this status
-abbrev pub Says : ℕ → List ℕ → Heard → Heard → ℕ → Type 0
-Says status text old new result = IsSaid status text old.faults new.faults old.told new.told result
+-- the status is this, or the sink failed, and it is 4
+abbrev pub IsStatus : ℕ → Heard → Heard → ℕ → Type 0
+IsStatus status silent heard result = (result ≡ status) ⊎ ((result ≡ 4) × Rose silent.faults heard.faults)
 
--- the words were in no command's form; or a command was done; or it ended before its end, and the reason was said, or for
--- want of memory only that memory ran out
-pub data Runs (words : List (List ℕ)) (old new : Seen) (silent heard : Heard) (result : ℕ) : Type 0 where
-  refused : command_of words ≡ None → IsOnlyRead old new → Says 2 words_text silent heard result → Runs words old new silent heard result
-  done : (command : Command) → command_of words ≡ Some command → (report : List ℕ) → (Tells old.told → IsDone (given_by (held old.told) command) old new report) → Says 0 report silent heard result → Runs words old new silent heard result
-  stopped : (command : Command) → command_of words ≡ Some command → (stop : Stop) → Ends (given_by (held old.told) command) old new stop → Says (status_of stop) (line_of (stems_in command) stop) silent heard result → Runs words old new silent heard result
-  forgot : (command : Command) → command_of words ≡ Some command → (stop : Stop) → Ends (given_by (held old.told) command) old new stop → (IsUnwritten stop → ⊥) → Says 5 memory_text silent heard result → Runs words old new silent heard result
+-- Which text is due, with which status. The words are in no command's form, and nothing is read. A command is done, and its
+-- report is due. Or it stops, and the line of the reason is due.
+pub data Due (words : List (List ℕ)) (old new : Seen) (status : ℕ) (text : List ℕ) : Type 0 where
+  refused : command_of words ≡ None → IsOnlyRead old new → IsQuiet old new → status ≡ 2 → text ≡ words_text → Due words old new status text
+  done : (command : Command) → command_of words ≡ Some command → Finishes command old new text → status ≡ 0 → Due words old new status text
+  stopped : (command : Command) → command_of words ≡ Some command → (stop : Stop) → Stops command old new stop → status ≡ status_of stop → text ≡ line_of command.stems stop → Due words old new status text
+
+-- a text was due, with a status, and it was said
+pub record Runs (words : List (List ℕ)) (old new : Seen) (silent heard : Heard) (result : ℕ) : Type 0 where
+  pub status : ℕ
+  pub text : List ℕ
+  pub due : Due words old new status text
+  pub said : IsSaid status text silent heard result
 
 -- at status 0 a command was done: its files are written, all others are as before, and its report was said
 pub record IsPerformed (words : List (List ℕ)) (old new : Seen) (silent heard : Heard) : Type 0 where
   pub command : Command
   pub asked : command_of words ≡ Some command
   pub report : List ℕ
-  pub done : IsDone (given_by (held old.told) command) old new report
+  pub done : IsDone command old new report
   pub said : heard.told ≡ extended silent.told report
 
--- the files, as they are when the run begins, give this reason to stop, with this status, and its line was said
+-- the line of this reason was said
+pub record IsTold (words : List (List ℕ)) (silent heard : Heard) (command : Command) (stop : Stop) : Type 0 where
+  pub asked : command_of words ≡ Some command
+  pub said : heard.told ≡ extended silent.told (line_of command.stems stop)
+
+-- at 1, 6 and 7: the files, as they are when the run begins, have this refusal first, with this status, and its line was said
 pub record IsRefusal (words : List (List ℕ)) (old : Seen) (silent heard : Heard) (result : ℕ) : Type 0 where
   pub command : Command
-  pub asked : command_of words ≡ Some command
   pub stop : Stop
-  pub reason : given_by (held old.told) command ≡ Err stop
+  pub refusal : input_in command (files_in old command.stems) ≡ Err stop
   pub status : status_of stop ≡ result
-  pub said : heard.told ≡ extended silent.told (line_of (stems_in command) stop)
+  pub line : IsTold words silent heard command stop
 
--- at status 4: only the sink failed, with all files as before or once all were written; or a file wasn't written, and the
--- line names it, unless the sink failed too
+-- at 3: a read failed, and the line names a file that the command reads. Where the shelf tells, every file before it is held,
+-- and the input has no refusal before it: with the file taken out, its first refusal is that the file isn't held
+pub record IsUnread (words : List (List ℕ)) (old new : Seen) (silent heard : Heard) : Type 0 where
+  pub command : Command
+  pub place : Place
+  pub fault : Rose old.read_faults new.read_faults
+  pub reads : IsAmong place (reads_of command.task)
+  pub reached : Tells old.told → input_in command (without place (files_in old command.stems)) ≡ Err (Device (Missing place))
+  pub line : IsTold words silent heard command (Device (Unread place))
+
+-- at 7: a name wasn't there, and the line names a file that the command reads
+pub record IsMissed (words : List (List ℕ)) (old new : Seen) (silent heard : Heard) : Type 0 where
+  pub command : Command
+  pub place : Place
+  pub miss : Rose old.misses new.misses
+  pub reads : IsAmong place (reads_of command.task)
+  pub line : IsTold words silent heard command (Device (Missing place))
+
+-- at 4: the sink failed, and gained a prefix of the text that was due; or a file wasn't written, and the line names it
 pub data IsUnfinished (words : List (List ℕ)) (old new : Seen) (silent heard : Heard) : Type 0 where
-  unsaid : IsAsBefore old.told new.told → Rose silent.faults heard.faults → IsUnfinished words old new silent heard
-  unreported : (command : Command) → command_of words ≡ Some command → (report : List ℕ) → IsDone (given_by (held old.told) command) old new report → GainsPrefix report silent.told heard.told → Rose silent.faults heard.faults → IsUnfinished words old new silent heard
-  unwritten : (command : Command) → command_of words ≡ Some command → (place : Place) → IsHalted (given_by (held old.told) command) old new (Unwritten place) → Rose old.write_faults new.write_faults → (heard.told ≡ extended silent.told (line_of (stems_in command) (Unwritten place))) ⊎ Rose silent.faults heard.faults → IsUnfinished words old new silent heard
+  unsaid : (status : ℕ) (text : List ℕ) → Due words old new status text → Rose silent.faults heard.faults → GainsPrefix text silent.told heard.told → IsUnfinished words old new silent heard
+  unwritten : (command : Command) (place : Place) → Rose old.write_faults new.write_faults → IsHalted command old new place → IsTold words silent heard command (Device (Unwritten place)) → IsUnfinished words old new silent heard
 
--- no read and no write counted as a fault, of the shelf and of the sink
+-- no read and no write on the sink has failed
+pub record AllowsRefusal (old new : Seen) (silent heard : Heard) : Type 0 where
+  pub reads : Rose old.read_faults new.read_faults → ⊥
+  pub sink : Rose silent.faults heard.faults → ⊥
+
+-- no read, no write and no write on the sink has failed
 pub record IsFaultless (old new : Seen) (silent heard : Heard) : Type 0 where
   pub reads : Rose old.read_faults new.read_faults → ⊥
   pub writes : Rose old.write_faults new.write_faults → ⊥
   pub sink : Rose silent.faults heard.faults → ⊥
-
--- the status that goes with what a command gives: 0, or that of the reason to stop
-abbrev pub status_given : Result Given Stop → ℕ
-status_given (Ok given) = 0
-status_given (Err stop) = status_of stop
-
--- one line was said: that of a reason with this status
-pub record IsLine (words : List (List ℕ)) (silent heard : Heard) (result : ℕ) : Type 0 where
-  pub line : List ℕ
-  pub is : ((result ≡ 2) × (line ≡ words_text)) ⊎ (((result ≡ 5) × (line ≡ memory_text)) ⊎ ((command : Command) × (stop : Stop) × (command_of words ≡ Some command) × (status_of stop ≡ result) × (line ≡ line_of (stems_in command) stop)))
-  pub said : heard.told ≡ extended silent.told line

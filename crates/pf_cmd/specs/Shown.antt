@@ -1,21 +1,32 @@
--- The code's stems, commands and readings, as what they say.
-use Rattle.pf_cmd.specs.declared.place.Stems.{Stems as CodedStems}
+-- The code's commands, options and readings, as what they say.
+use Rattle.std.specs.Prelude.{◌≡◌, ℕ, List, length, Ok}
+use Rattle.pf_model.specs.Replay.{replayed, IsLegal}
+use Rattle.pf_say.specs.Shown.{stems_of}
+use Rattle.pf_cmd.specs.declared.words.Choice.{Choice as CodedChoice}
 use Rattle.pf_cmd.specs.declared.words.Command.{Command as CodedCommand}
-use Rattle.pf_cmd.specs.declared.words.Command.TheVariants.{Replay, Check}
 use Rattle.pf_cmd.specs.declared.input.Parted.{Parted as CodedParted}
-use Rattle.pf_cmd.specs.Place.{Stems}
-use Rattle.pf_cmd.specs.Input.{Parted}
-use Rattle.pf_cmd.specs.Words.{Command, replay, check}
-
--- the two stems as texts
-abbrev pub stems_of : CodedStems → Stems
-stems_of stems = record { base = stems.base.now; out = stems.out.now }
+use Rattle.pf_cmd.specs.declared.replay.Replayed.{Replayed as CodedReplayed}
+use Rattle.pf_cmd.specs.Input.{Held, Parted}
+use Rattle.pf_cmd.specs.Words.{Choice}
+use Rattle.pf_cmd.specs.Commands.{Command, Journalled, journalled_in}
 
 -- what a command asks for
 abbrev pub shown : CodedCommand → Command
-shown (Replay stems scale) = replay stems.base.now stems.out.now scale
-shown (Check base scale) = check base.now scale
+shown command = record { task = command.task; stems = stems_of command.stems; scale = command.scale }
+
+-- an option of a command
+abbrev pub choice_of : CodedChoice → Choice
+choice_of choice = record { name = choice.name.now; least = choice.least; most = choice.most; otherwise = choice.otherwise }
 
 -- a mesh as it is listed with its chunks, as what it says
 abbrev pub parted_of : CodedParted → Parted
 parted_of read = record { listed = record { base = read.listed.base; mesh = read.listed.mesh.mesh; triangles = read.listed.triangles.items }; parts = read.parts }
+
+-- a mesh after its journal, as what it was before
+pub record IsReplayed (scale : ℕ) (files : Held) (after : CodedReplayed) : Type 0 where
+  pub input : Journalled
+  pub is_input : journalled_in scale files ≡ Ok input
+  pub legal : IsLegal input.mesh input.entries
+  pub base : after.base ≡ input.base
+  pub mesh : after.mesh.mesh ≡ replayed input.mesh input.entries
+  pub operations : after.operations ≡ length input.entries

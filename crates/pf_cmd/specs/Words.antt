@@ -1,47 +1,81 @@
 -- The words of a command line, and the command that they ask for.
-use Rattle.std.specs.Prelude.{ℕ, List, [], ◌∷◌, codes, Bool, false, not, ◌==◌, ◌&&◌, nat_le, map, Option, Some, None, Ok, Err, if◌then◌else◌}
+use Rattle.std.specs.Prelude.{◌≡◌, ◌≤◌, ℕ, List, [], ◌∷◌, codes, Bool, false, true, not, ◌==◌, ◌&&◌, nat_le, map, Option, Some, None, Ok, Err, is_some, unwrap_or, if◌then◌else◌}
 use Rattle.std.specs.Borrow.{Bor}
-use Rattle.std.specs.Option.{option_map}
 use Rattle.std.specs.Str.{bytes_eq}
 use Rattle.pf_lex.specs.Number.{natural_of}
+use Rattle.pf_cmd.specs.declared.words.Task.TheVariants.{Replay, Check}
+use Rattle.pf_cmd.specs.Commands.{Command}
 
 -- the words as texts
 abbrev pub texts_of : List (Bor (List ℕ)) → List (List ℕ)
 texts_of words = map (λ word. word.now) words
-
--- what a list of words asks for
-pub data Command : Type 0 where
-  -- replay the journal of the second stem on the mesh of the first, its coordinates multiplied by the scale
-  replay : (base out : List ℕ) (scale : ℕ) → Command
-  -- check the mesh of the stem, its coordinates multiplied by the scale
-  check : (base : List ℕ) (scale : ℕ) → Command
 
 -- the word begins with a dash
 abbrev pub has_dash : List ℕ → Bool
 has_dash [] = false
 has_dash (first ∷ others) = first == 45
 
--- a scale is digits, and from 1 to 1,048,576
-abbrev pub scale_from : List ℕ → Option ℕ
-scale_from word = elim (natural_of word) [ Ok scale ↦ if nat_le 1 scale && nat_le scale 1048576 then Some scale else None | Err fault ↦ None ]
+-- an option of a command: its name, the least and the greatest value that it takes, and its value where it isn't given
+pub record Choice : Type 0 where
+  pub name : List ℕ
+  pub least : ℕ
+  pub most : ℕ
+  pub otherwise : ℕ
 
--- the scale that the options say: `--scale S`, or nothing
-abbrev pub scale_of : List (List ℕ) → Option ℕ
-scale_of [] = Some 1
-scale_of (name ∷ []) = None
-scale_of (name ∷ value ∷ []) = if bytes_eq name (codes "--scale") then scale_from value else None
-scale_of (name ∷ value ∷ other ∷ others) = None
+-- what coordinates are multiplied by
+abbrev pub scale_choice : Choice
+scale_choice = record { name = codes "--scale"; least = 1; most = 1048576; otherwise = 1 }
+
+-- the options of a replay
+abbrev pub replay_choices : List Choice
+replay_choices = scale_choice ∷ []
+
+-- the options of a check
+abbrev pub check_choices : List Choice
+check_choices = scale_choice ∷ []
+
+-- the value that a word gives an option: digits alone, in its range
+abbrev pub chosen : Choice → List ℕ → Option ℕ
+chosen choice word = elim (natural_of word) [ Ok value ↦ if nat_le choice.least value && nat_le value choice.most then Some value else None | Err fault ↦ None ]
+
+-- the option of this name takes this value
+abbrev pub is_choice : List Choice → List ℕ → List ℕ → Bool
+is_choice [] name word = false
+is_choice (choice ∷ choices) name word = if bytes_eq name choice.name then is_some (chosen choice word) else is_choice choices name word
+
+-- the word is among these
+abbrev pub has_word : List ℕ → List (List ℕ) → Bool
+has_word word [] = false
+has_word word (first ∷ words) = if bytes_eq first word then true else has_word word words
+
+-- the words are options, each with its value behind its name, in any order, and each at most once
+abbrev pub are_choices : List Choice → List (List ℕ) → Bool
+are_choices choices [] = true
+are_choices choices (name ∷ []) = false
+are_choices choices (name ∷ word ∷ words) = is_choice choices name word && not (has_word name words) && are_choices choices words
+
+-- the value of an option
+abbrev pub value_of : Choice → List (List ℕ) → ℕ
+value_of choice [] = choice.otherwise
+value_of choice (name ∷ []) = choice.otherwise
+value_of choice (name ∷ word ∷ words) = if bytes_eq name choice.name then unwrap_or (chosen choice word) choice.otherwise else value_of choice words
 
 -- `BASE OUT`, and the options
 abbrev pub replay_of : List (List ℕ) → Option Command
 replay_of [] = None
 replay_of (base ∷ []) = None
-replay_of (base ∷ out ∷ options) = if not (has_dash base) && not (has_dash out) then option_map (replay base out) (scale_of options) else None
+replay_of (base ∷ out ∷ options) =
+    if not (has_dash base) && not (has_dash out) && are_choices replay_choices options
+    then Some record { task = Replay; stems = record { base = base; out = out }; scale = value_of scale_choice options }
+    else None
 
 -- `BASE`, and the options
 abbrev pub check_of : List (List ℕ) → Option Command
 check_of [] = None
-check_of (base ∷ options) = if not (has_dash base) then option_map (check base) (scale_of options) else None
+check_of (base ∷ options) =
+    if not (has_dash base) && are_choices check_choices options
+    then Some record { task = Check; stems = record { base = base; out = base }; scale = value_of scale_choice options }
+    else None
 
 -- the command; none where the words are in no command's form
 abbrev pub command_of : List (List ℕ) → Option Command

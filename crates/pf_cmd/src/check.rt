@@ -1,18 +1,19 @@
 // The check of a mesh.
 ghost use Rattle.std.specs.Prelude.{◌≡◌, [], ◌∷◌, ◌++◌, IfOk, IfErr, OnOk, codes, decimal, length};
 ghost use Rattle.std.specs.Fmt.{signed_decimal};
+ghost use Rattle.pf_say.specs.Stop.{memory_stop};
 ghost use Rattle.pf_model.specs.Sums.{euler_of, boundary_of};
 ghost use Rattle.pf_model.specs.Texts.{line_text, check_report};
 
-use crate::output::{put_line, put_mesh};
-use crate::stop::Stop;
+use crate::output::put_mesh;
 use pf_forms::{boundary, euler};
 use pf_mesh::Mesh;
+use pf_say::{Stop, put_line};
 use std::alloc::{AllocError, Global};
 
 /// The report of a check: what the mesh has, and how many chunks.
 pub(crate) fn check_text(alloc: Global, mesh: &Mesh, chunks: u16) -> Result<Vec<u8>, Stop>
-    ensures memory { IfErr result (λ stop. stop ≡ Stop.Memory) }
+    ensures memory { IfErr result (λ stop. stop ≡ memory_stop) }
     ensures text { IfOk result (λ text. text.items ≡ check_report chunks mesh.now.mesh) }
 {
     let mut text = Vec::new(alloc);
@@ -25,7 +26,7 @@ pub(crate) fn check_text(alloc: Global, mesh: &Mesh, chunks: u16) -> Result<Vec<
 
 // Puts the Euler number.
 fn put_euler(alloc: Global, text: &mut Vec<u8>, mesh: &Mesh) -> Result<(), Stop>
-    ensures memory { IfErr result (λ stop. stop ≡ Stop.Memory) }
+    ensures memory { IfErr result (λ stop. stop ≡ memory_stop) }
     ensures text { OnOk result (text.new.items ≡ text.old.items ++ line_text (codes "euler" ∷ signed_decimal (euler_of mesh.now.mesh) ∷ [])) }
 {
     let number = euler(alloc, mesh)?;
@@ -35,7 +36,7 @@ fn put_euler(alloc: Global, text: &mut Vec<u8>, mesh: &Mesh) -> Result<(), Stop>
 
 // Puts how many boundary edges there are.
 fn put_boundary(alloc: Global, text: &mut Vec<u8>, mesh: &Mesh) -> Result<(), Stop>
-    ensures memory { IfErr result (λ stop. stop ≡ Stop.Memory) }
+    ensures memory { IfErr result (λ stop. stop ≡ memory_stop) }
     ensures text { OnOk result (text.new.items ≡ text.old.items ++ line_text (codes "boundary" ∷ decimal (length (boundary_of mesh.now.mesh)) ∷ [])) }
 {
     let edges = boundary(alloc, mesh)?;

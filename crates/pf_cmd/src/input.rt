@@ -1,23 +1,24 @@
 // What the files that a command reads say.
-ghost use Rattle.std.specs.Prelude.{◌≡◌, ◌<◌, ◌≤◌, ◌+◌, ℕ, Ok, Err, IfOk, IfErr, All, length, vec_len};
-ghost use Rattle.pf_shelf.specs.Files.{Tells, held};
-ghost use Rattle.pf_cmd.specs.Causes.{seen, IsOnlyRead, Explains};
-ghost use Rattle.pf_cmd.specs.Shown.{stems_of, parted_of};
-ghost use Rattle.pf_cmd.specs.Input.{bytes_in, vertices_in, triangles_in, mesh_in, parts_in, bands_in, parted_in, numbered_in, entries_in, tri_stop, build_stop, table_stop, jour_stop};
+ghost use Rattle.std.specs.Prelude.{◌≡◌, ◌<◌, ◌≤◌, ◌+◌, [], ◌∷◌, ℕ, Ok, IfOk, IfErr, All, length, vec_len};
+ghost use Rattle.pf_shelf.specs.Files.{Tells};
+ghost use Rattle.pf_say.specs.Shown.{stems_of};
+ghost use Rattle.pf_cmd.specs.Causes.{IsOnlyRead, IsQuiet, Explains};
+ghost use Rattle.pf_cmd.specs.Shown.{parted_of};
+ghost use Rattle.pf_cmd.specs.Input.{files_in, bytes_in, vertices_in, triangles_in, mesh_in, parts_in, bands_in, parted_in, numbered_in, entries_in};
 ghost use Rattle.pf_geom.specs.Plane.{IsInRange};
 ghost use Rattle.pf_model.specs.Conforming.{IsLive, HasDefault};
 ghost use Rattle.pf_model.specs.Tables.{AreListed};
-ghost use Rattle.tri_files.specs.Node.{vertices_of};
-ghost use Rattle.pf_journal.specs.Entries.{HasTickets};
+ghost use Rattle.tri_text.specs.Node.{vertices_of};
+ghost use Rattle.pf_model.specs.Replay.{HasTickets};
 
-use crate::place::{Place, Stems};
-use crate::stop::Stop;
-use pf_journal::{JourErr, read_journal};
-use pf_mesh::{Band, BuildErr, Entry, Mesh, build};
+use crate::fault::{build_stop, jour_stop, table_stop, tri_stop};
+use pf_journal::read_journal;
+use pf_mesh::{Band, Entry, Mesh, build};
+use pf_say::{Fault, Place, Stems, Stop, Trouble};
 use pf_shelf::{ReadErr, Shelf, read_all};
-use pf_tables::{Parts, TableErr, read_part, read_size};
+use pf_tables::{Parts, read_part, read_size};
 use std::alloc::Global;
-use tri_files::{Nodes, TriErr, read_ele, read_node};
+use tri_files::{Nodes, read_ele, read_node};
 
 /// How many bytes a file may have.
 const LONGEST: u64 = 268_435_456;
@@ -32,18 +33,30 @@ pub(crate) fn read_bytes<S: Shelf>(
     stems: Stems<'_>,
     place: Place,
 ) -> Result<Vec<u8>, Stop>
-    ensures bytes { Tells (S.told shelf.old) → IfOk result (λ bytes. bytes_in (held (S.told shelf.old)) (stems_of stems.entry) place ≡ Ok bytes.items) }
+    ensures bytes { Tells (S.seen shelf.old).told → IfOk result (λ bytes.
+        bytes_in place (files_in (S.seen shelf.old) (stems_of stems.entry)) ≡ Ok bytes.items) }
     ensures within { IfOk result (λ bytes. vec_len bytes ≤ 268435456) }
-    ensures stop { IfErr result (Explains (seen S.told S.read_faults S.write_faults S.misses shelf.old) (seen S.told S.read_faults S.write_faults S.misses shelf.new) (bytes_in (held (S.told shelf.old)) (stems_of stems.entry) place)) }
-    ensures only_read { IsOnlyRead (seen S.told S.read_faults S.write_faults S.misses shelf.old) (seen S.told S.read_faults S.write_faults S.misses shelf.new) }
+    ensures stop { IfErr result (Explains (place ∷ []) (S.seen shelf.old) (S.seen shelf.new)
+        (stems_of stems.entry) (bytes_in place)) }
+    ensures quiet { IfOk result (λ _. IsQuiet (S.seen shelf.old) (S.seen shelf.new)) }
+    ensures only_read { IsOnlyRead (S.seen shelf.old) (S.seen shelf.new) }
 {
     let name = stems.name(alloc, place)?;
     match read_all(alloc, shelf, &name, LONGEST) {
         Ok(bytes) => Ok(bytes),
-        Err(ReadErr::Missing) => Err(Stop::Missing { place }),
-        Err(ReadErr::Fault) => Err(Stop::Unread { place }),
-        Err(ReadErr::TooLong { .. }) => Err(Stop::TooLong { place }),
-        Err(ReadErr::Memory) => Err(Stop::Memory),
+        Err(ReadErr::Missing) => Err(Stop::Device {
+            trouble: Trouble::Missing { place },
+        }),
+        Err(ReadErr::Fault) => Err(Stop::Device {
+            trouble: Trouble::Unread { place },
+        }),
+        Err(ReadErr::TooLong { .. }) => Err(Stop::Input {
+            place,
+            fault: Fault::TooLong,
+        }),
+        Err(ReadErr::Memory) => Err(Stop::Device {
+            trouble: Trouble::Memory,
+        }),
     }
 }
 
@@ -56,12 +69,15 @@ pub(crate) fn read_vertices<S: Shelf>(
 ) -> Result<Nodes, Stop>
     requires scale_low { 1 ≤ scale }
     requires scale_high { scale ≤ 1048576 }
-    ensures vertices { Tells (S.told shelf.old) → IfOk result (λ nodes. vertices_in (held (S.told shelf.old)) (stems_of stems.entry) scale ≡ Ok (vertices_of nodes)) }
+    ensures vertices { Tells (S.seen shelf.old).told → IfOk result (λ nodes.
+        vertices_in scale (files_in (S.seen shelf.old) (stems_of stems.entry)) ≡ Ok (vertices_of nodes)) }
     ensures base { IfOk result (λ nodes. nodes.base ≤ 1) }
     ensures count { IfOk result (λ nodes. length nodes.points.items ≤ 1048576) }
     ensures in_range { IfOk result (λ nodes. All IsInRange nodes.points.items) }
-    ensures stop { IfErr result (Explains (seen S.told S.read_faults S.write_faults S.misses shelf.old) (seen S.told S.read_faults S.write_faults S.misses shelf.new) (vertices_in (held (S.told shelf.old)) (stems_of stems.entry) scale)) }
-    ensures only_read { IsOnlyRead (seen S.told S.read_faults S.write_faults S.misses shelf.old) (seen S.told S.read_faults S.write_faults S.misses shelf.new) }
+    ensures stop { IfErr result (Explains (Place.Node ∷ []) (S.seen shelf.old) (S.seen shelf.new)
+        (stems_of stems.entry) (vertices_in scale)) }
+    ensures quiet { IfOk result (λ _. IsQuiet (S.seen shelf.old) (S.seen shelf.new)) }
+    ensures only_read { IsOnlyRead (S.seen shelf.old) (S.seen shelf.new) }
 {
     let bytes = read_bytes(alloc, shelf, stems, Place::Node)?;
     match read_node(alloc, &bytes, scale) {
@@ -78,10 +94,13 @@ fn read_triangles<S: Shelf>(
     nodes: &Nodes,
 ) -> Result<Vec<[u32; 3]>, Stop>
     requires points { length nodes.now.points.items ≤ 1048576 }
-    ensures triangles { Tells (S.told shelf.old) → IfOk result (λ triangles. triangles_in (held (S.told shelf.old)) (stems_of stems.entry) (vertices_of nodes.now) ≡ Ok triangles.items) }
+    ensures triangles { Tells (S.seen shelf.old).told → IfOk result (λ triangles.
+        triangles_in (vertices_of nodes.now) (files_in (S.seen shelf.old) (stems_of stems.entry)) ≡ Ok triangles.items) }
     ensures count { IfOk result (λ triangles. length triangles.items ≤ 2097152) }
-    ensures stop { IfErr result (Explains (seen S.told S.read_faults S.write_faults S.misses shelf.old) (seen S.told S.read_faults S.write_faults S.misses shelf.new) (triangles_in (held (S.told shelf.old)) (stems_of stems.entry) (vertices_of nodes.now))) }
-    ensures only_read { IsOnlyRead (seen S.told S.read_faults S.write_faults S.misses shelf.old) (seen S.told S.read_faults S.write_faults S.misses shelf.new) }
+    ensures stop { IfErr result (Explains (Place.Ele ∷ []) (S.seen shelf.old) (S.seen shelf.new)
+        (stems_of stems.entry) (triangles_in (vertices_of nodes.now))) }
+    ensures quiet { IfOk result (λ _. IsQuiet (S.seen shelf.old) (S.seen shelf.new)) }
+    ensures only_read { IsOnlyRead (S.seen shelf.old) (S.seen shelf.new) }
 {
     let bytes = read_bytes(alloc, shelf, stems, Place::Ele)?;
     match read_ele(alloc, &bytes, nodes) {
@@ -107,13 +126,16 @@ pub(crate) fn read_mesh<S: Shelf>(
 ) -> Result<Listed, Stop>
     requires scale_low { 1 ≤ scale }
     requires scale_high { scale ≤ 1048576 }
-    ensures mesh { Tells (S.told shelf.old) → IfOk result (λ read. mesh_in (held (S.told shelf.old)) (stems_of stems.entry) scale ≡ Ok record { base = read.base; mesh = read.mesh.mesh; triangles = read.triangles.items }) }
+    ensures mesh { Tells (S.seen shelf.old).told → IfOk result (λ read.
+        mesh_in scale (files_in (S.seen shelf.old) (stems_of stems.entry)) ≡ Ok record { base = read.base; mesh = read.mesh.mesh; triangles = read.triangles.items }) }
     ensures count { IfOk result (λ read. length read.triangles.items ≤ 2097152) }
     ensures listed { IfOk result (λ read. AreListed read.triangles.items read.mesh.mesh.tris) }
     ensures base { IfOk result (λ read. read.base ≤ 1) }
     ensures fresh { IfOk result (λ read. (n : ℕ) → IsLive read.mesh.mesh n → n < read.mesh.mesh.first_new) }
-    ensures stop { IfErr result (Explains (seen S.told S.read_faults S.write_faults S.misses shelf.old) (seen S.told S.read_faults S.write_faults S.misses shelf.new) (mesh_in (held (S.told shelf.old)) (stems_of stems.entry) scale)) }
-    ensures only_read { IsOnlyRead (seen S.told S.read_faults S.write_faults S.misses shelf.old) (seen S.told S.read_faults S.write_faults S.misses shelf.new) }
+    ensures stop { IfErr result (Explains (Place.Node ∷ Place.Ele ∷ []) (S.seen shelf.old) (S.seen shelf.new)
+        (stems_of stems.entry) (mesh_in scale)) }
+    ensures quiet { IfOk result (λ _. IsQuiet (S.seen shelf.old) (S.seen shelf.new)) }
+    ensures only_read { IsOnlyRead (S.seen shelf.old) (S.seen shelf.new) }
 {
     let nodes = read_vertices(alloc, shelf, stems, scale)?;
     let triangles = read_triangles(alloc, shelf, stems, &nodes)?;
@@ -134,12 +156,15 @@ fn read_parts<S: Shelf>(
     stems: Stems<'_>,
     triangles: u32,
 ) -> Result<Parts, Stop>
-    ensures parts { Tells (S.told shelf.old) → IfOk result (λ parts. parts_in (held (S.told shelf.old)) (stems_of stems.entry) triangles ≡ Ok parts) }
+    ensures parts { Tells (S.seen shelf.old).told → IfOk result (λ parts.
+        parts_in triangles (files_in (S.seen shelf.old) (stems_of stems.entry)) ≡ Ok parts) }
     ensures each_triangle { IfOk result (λ parts. length parts.owners ≡ triangles) }
     ensures owned { IfOk result (λ parts. All (λ owner. owner < parts.chunks) parts.owners) }
     ensures some_chunk { IfOk result (λ parts. 1 ≤ parts.chunks) }
-    ensures stop { IfErr result (Explains (seen S.told S.read_faults S.write_faults S.misses shelf.old) (seen S.told S.read_faults S.write_faults S.misses shelf.new) (parts_in (held (S.told shelf.old)) (stems_of stems.entry) triangles)) }
-    ensures only_read { IsOnlyRead (seen S.told S.read_faults S.write_faults S.misses shelf.old) (seen S.told S.read_faults S.write_faults S.misses shelf.new) }
+    ensures stop { IfErr result (Explains (Place.Part ∷ []) (S.seen shelf.old) (S.seen shelf.new)
+        (stems_of stems.entry) (parts_in triangles)) }
+    ensures quiet { IfOk result (λ _. IsQuiet (S.seen shelf.old) (S.seen shelf.new)) }
+    ensures only_read { IsOnlyRead (S.seen shelf.old) (S.seen shelf.new) }
 {
     let bytes = read_bytes(alloc, shelf, stems, Place::Part)?;
     match read_part(alloc, &bytes, triangles) {
@@ -150,10 +175,13 @@ fn read_parts<S: Shelf>(
 
 /// The wanted lengths.
 fn read_bands<S: Shelf>(alloc: Global, shelf: &mut S, stems: Stems<'_>) -> Result<Vec<Band>, Stop>
-    ensures bands { Tells (S.told shelf.old) → IfOk result (λ bands. bands_in (held (S.told shelf.old)) (stems_of stems.entry) ≡ Ok bands.items) }
+    ensures bands { Tells (S.seen shelf.old).told → IfOk result (λ bands.
+        bands_in (files_in (S.seen shelf.old) (stems_of stems.entry)) ≡ Ok bands.items) }
     ensures default_last { IfOk result (λ bands. HasDefault bands.items) }
-    ensures stop { IfErr result (Explains (seen S.told S.read_faults S.write_faults S.misses shelf.old) (seen S.told S.read_faults S.write_faults S.misses shelf.new) (bands_in (held (S.told shelf.old)) (stems_of stems.entry))) }
-    ensures only_read { IsOnlyRead (seen S.told S.read_faults S.write_faults S.misses shelf.old) (seen S.told S.read_faults S.write_faults S.misses shelf.new) }
+    ensures stop { IfErr result (Explains (Place.Size ∷ []) (S.seen shelf.old) (S.seen shelf.new)
+        (stems_of stems.entry) bands_in) }
+    ensures quiet { IfOk result (λ _. IsQuiet (S.seen shelf.old) (S.seen shelf.new)) }
+    ensures only_read { IsOnlyRead (S.seen shelf.old) (S.seen shelf.new) }
 {
     let bytes = read_bytes(alloc, shelf, stems, Place::Size)?;
     match read_size(alloc, &bytes) {
@@ -178,14 +206,17 @@ pub(crate) fn read_parted<S: Shelf>(
 ) -> Result<Parted, Stop>
     requires scale_low { 1 ≤ scale }
     requires scale_high { scale ≤ 1048576 }
-    ensures parted { Tells (S.told shelf.old) → IfOk result (λ read. parted_in (held (S.told shelf.old)) (stems_of stems.entry) scale ≡ Ok (parted_of read)) }
+    ensures parted { Tells (S.seen shelf.old).told → IfOk result (λ read.
+        parted_in scale (files_in (S.seen shelf.old) (stems_of stems.entry)) ≡ Ok (parted_of read)) }
     ensures base { IfOk result (λ read. read.listed.base ≤ 1) }
     ensures fresh { IfOk result (λ read. (n : ℕ) → IsLive read.listed.mesh.mesh n → n < read.listed.mesh.mesh.first_new) }
     ensures listed { IfOk result (λ read. AreListed read.listed.triangles.items read.listed.mesh.mesh.tris) }
     ensures each_triangle { IfOk result (λ read. length read.parts.owners ≡ length read.listed.triangles.items) }
     ensures owned { IfOk result (λ read. All (λ owner. owner < read.parts.chunks) read.parts.owners) }
-    ensures stop { IfErr result (Explains (seen S.told S.read_faults S.write_faults S.misses shelf.old) (seen S.told S.read_faults S.write_faults S.misses shelf.new) (parted_in (held (S.told shelf.old)) (stems_of stems.entry) scale)) }
-    ensures only_read { IsOnlyRead (seen S.told S.read_faults S.write_faults S.misses shelf.old) (seen S.told S.read_faults S.write_faults S.misses shelf.new) }
+    ensures stop { IfErr result (Explains (Place.Node ∷ Place.Ele ∷ Place.Part ∷ []) (S.seen shelf.old) (S.seen shelf.new)
+        (stems_of stems.entry) (parted_in scale)) }
+    ensures quiet { IfOk result (λ _. IsQuiet (S.seen shelf.old) (S.seen shelf.new)) }
+    ensures only_read { IsOnlyRead (S.seen shelf.old) (S.seen shelf.new) }
 {
     let listed = read_mesh(alloc, shelf, stems, scale)?;
     let parts = read_parts(alloc, shelf, stems, listed.triangles.len() as u32)?;
@@ -208,11 +239,14 @@ pub(crate) fn read_numbered<S: Shelf>(
 ) -> Result<Numbered, Stop>
     requires scale_low { 1 ≤ scale }
     requires scale_high { scale ≤ 1048576 }
-    ensures mesh { Tells (S.told shelf.old) → IfOk result (λ read. numbered_in (held (S.told shelf.old)) (stems_of stems.entry) scale ≡ Ok record { base = read.base; mesh = read.mesh.mesh }) }
+    ensures mesh { Tells (S.seen shelf.old).told → IfOk result (λ read.
+        numbered_in scale (files_in (S.seen shelf.old) (stems_of stems.entry)) ≡ Ok record { base = read.base; mesh = read.mesh.mesh }) }
     ensures base { IfOk result (λ read. read.base ≤ 1) }
     ensures fresh { IfOk result (λ read. (n : ℕ) → IsLive read.mesh.mesh n → n < read.mesh.mesh.first_new) }
-    ensures stop { IfErr result (Explains (seen S.told S.read_faults S.write_faults S.misses shelf.old) (seen S.told S.read_faults S.write_faults S.misses shelf.new) (numbered_in (held (S.told shelf.old)) (stems_of stems.entry) scale)) }
-    ensures only_read { IsOnlyRead (seen S.told S.read_faults S.write_faults S.misses shelf.old) (seen S.told S.read_faults S.write_faults S.misses shelf.new) }
+    ensures stop { IfErr result (Explains (Place.Node ∷ Place.Ele ∷ Place.Part ∷ Place.Size ∷ []) (S.seen shelf.old) (S.seen shelf.new)
+        (stems_of stems.entry) (numbered_in scale)) }
+    ensures quiet { IfOk result (λ _. IsQuiet (S.seen shelf.old) (S.seen shelf.new)) }
+    ensures only_read { IsOnlyRead (S.seen shelf.old) (S.seen shelf.new) }
 {
     let Parted { listed, parts } = read_parted(alloc, shelf, stems, scale)?;
     let bands = read_bands(alloc, shelf, stems)?;
@@ -233,11 +267,14 @@ pub(crate) fn read_entries<S: Shelf>(
     stems: Stems<'_>,
     vertices: u32,
 ) -> Result<Vec<Entry>, Stop>
-    ensures entries { Tells (S.told shelf.old) → IfOk result (λ entries. entries_in (held (S.told shelf.old)) (stems_of stems.entry) vertices ≡ Ok entries.items) }
+    ensures entries { Tells (S.seen shelf.old).told → IfOk result (λ entries.
+        entries_in vertices (files_in (S.seen shelf.old) (stems_of stems.entry)) ≡ Ok entries.items) }
     ensures tickets { IfOk result (λ entries. HasTickets entries.items) }
     ensures limit { IfOk result (λ entries. vertices + length entries.items ≤ 1048576) }
-    ensures stop { IfErr result (Explains (seen S.told S.read_faults S.write_faults S.misses shelf.old) (seen S.told S.read_faults S.write_faults S.misses shelf.new) (entries_in (held (S.told shelf.old)) (stems_of stems.entry) vertices)) }
-    ensures only_read { IsOnlyRead (seen S.told S.read_faults S.write_faults S.misses shelf.old) (seen S.told S.read_faults S.write_faults S.misses shelf.new) }
+    ensures stop { IfErr result (Explains (Place.Journal ∷ []) (S.seen shelf.old) (S.seen shelf.new)
+        (stems_of stems.entry) (entries_in vertices)) }
+    ensures quiet { IfOk result (λ _. IsQuiet (S.seen shelf.old) (S.seen shelf.new)) }
+    ensures only_read { IsOnlyRead (S.seen shelf.old) (S.seen shelf.new) }
 {
     let bytes = read_bytes(alloc, shelf, stems, Place::Journal)?;
     match read_journal(alloc, &bytes) {
@@ -249,45 +286,5 @@ pub(crate) fn read_entries<S: Shelf>(
             Ok(entries)
         }
         Err(fault) => Err(jour_stop(fault)),
-    }
-}
-
-// Why the run stops where the triangles make no mesh.
-fn build_stop(fault: BuildErr) -> Stop
-    ensures { result ≡ build_stop fault }
-{
-    match fault {
-        BuildErr::Memory => Stop::Memory,
-        _ => Stop::BuildFault { fault },
-    }
-}
-
-// Why the run stops where a table is refused.
-fn table_stop(place: Place, fault: TableErr) -> Stop
-    ensures { result ≡ table_stop place fault }
-{
-    match fault {
-        TableErr::Memory => Stop::Memory,
-        _ => Stop::TableFault { place, fault },
-    }
-}
-
-// Why the run stops where a journal is refused.
-fn jour_stop(fault: JourErr) -> Stop
-    ensures { result ≡ jour_stop fault }
-{
-    match fault {
-        JourErr::Memory => Stop::Memory,
-        _ => Stop::JourFault { fault },
-    }
-}
-
-// Why the run stops where a file of nodes or triangles is refused.
-fn tri_stop(place: Place, fault: TriErr) -> Stop
-    ensures { result ≡ tri_stop place fault }
-{
-    match fault {
-        TriErr::Memory => Stop::Memory,
-        _ => Stop::TriFault { place, fault },
     }
 }

@@ -1,18 +1,16 @@
 // What a command writes and says, made ready before the first write.
-ghost use Rattle.std.specs.Prelude.{◌≡◌, ◌≤◌, List, [], ◌∷◌, ◌++◌, ℕ, IfOk, IfErr, OnOk, OnErr, is_some, map};
+ghost use Rattle.std.specs.Prelude.{◌≡◌, List, ◌++◌, ℕ, IfOk, IfErr, OnOk, OnErr, map};
 ghost use Rattle.pf_model.specs.Texts.{lines_text, mesh_lines};
 ghost use Rattle.pf_shelf.specs.Count.{Rose};
 ghost use Rattle.pf_shelf.specs.Files.{Tells, held};
+ghost use Rattle.pf_say.specs.Shown.{stems_of};
 ghost use Rattle.pf_cmd.specs.Output.{named_text, written_to, written, IsNoneOf};
-ghost use Rattle.pf_cmd.specs.Shown.{stems_of};
-ghost use Rattle.pf_cmd.specs.CutOff.{IsCut};
-ghost use Rattle.pf_cmd.specs.Ends.{IsUnwritten};
+ghost use Rattle.pf_cmd.specs.CutOff.{IsCutAt};
+ghost use Rattle.pf_cmd.specs.Causes.{IsQuiet};
 
-use crate::place::{Place, Stems};
-use crate::stop::Stop;
-use itoa::{Buffer, Integer};
 use pf_forms::area2;
 use pf_mesh::Mesh;
+use pf_say::{Place, Stems, put_line};
 use pf_shelf::{Shelf, WriteErr, write_all};
 use std::alloc::{AllocError, Global};
 
@@ -37,20 +35,6 @@ pub(crate) fn out_file(
     Ok(OutFile { place, name, text })
 }
 
-/// Puts a line of a report: a word, a number and the end of the line.
-pub(crate) fn put_line<I: Integer>(
-    text: &mut Vec<u8>,
-    word: &[u8],
-    number: I,
-) -> Result<(), AllocError>
-    ensures { OnOk result (text.new.items ≡ text.old.items ++ word.now ++ I.text number ++ 10 ∷ []) }
-{
-    text.extend_from_slice(word)?;
-    text.extend_from_slice(Buffer::new().format(number).as_bytes())?;
-    text.push(b'\n')?;
-    Ok(())
-}
-
 /// Puts what every report says of a mesh: how many nodes and triangles there are, and twice the area.
 pub(crate) fn put_mesh(text: &mut Vec<u8>, mesh: &Mesh) -> Result<(), AllocError>
     ensures { OnOk result (text.new.items ≡ text.old.items ++ lines_text (mesh_lines mesh.now.mesh)) }
@@ -68,24 +52,24 @@ pub(crate) struct Output {
     pub(crate) report: Vec<u8>,
 }
 
-/// Writes the files, one after another.
-pub(crate) fn write_files<S: Shelf>(shelf: &mut S, files: &[OutFile]) -> Result<(), Stop>
-    ensures written { Tells (S.told shelf.old) → OnOk result ((name : List ℕ) →
-        held (S.told shelf.new) name ≡ written (map named_text files.now) (held (S.told shelf.old)) name) }
-    ensures stop { IfErr result IsUnwritten }
-    ensures cut { Tells (S.told shelf.old) → IfErr result (IsCut (map named_text files.now) (held (S.told shelf.old)) (held (S.told shelf.new))) }
-    ensures fault { OnErr result (Rose (S.write_faults shelf.old) (S.write_faults shelf.new)) }
+/// Writes the files, one after another. The error names the file that wasn't written.
+pub(crate) fn write_files<S: Shelf>(shelf: &mut S, files: &[OutFile]) -> Result<(), Place>
+    ensures written { Tells (S.seen shelf.old).told → OnOk result ((name : List ℕ) →
+        held (S.seen shelf.new).told name ≡ written (map named_text files.now) (held (S.seen shelf.old).told) name) }
+    ensures cut { Tells (S.seen shelf.old).told → IfErr result
+        (IsCutAt (map named_text files.now) (held (S.seen shelf.old).told) (held (S.seen shelf.new).told)) }
+    ensures fault { OnErr result (Rose (S.seen shelf.old).write_faults (S.seen shelf.new).write_faults) }
+    ensures no_fault { OnOk result ((S.seen shelf.new).write_faults ≡ (S.seen shelf.old).write_faults) }
 
     // Whatever it answers.
     ensures others { (name : List ℕ) → IsNoneOf (map named_text files.now) name →
-        held (S.told shelf.new) name ≡ held (S.told shelf.old) name }
-    ensures tells { is_some (S.told shelf.new) ≡ is_some (S.told shelf.old) }
-    ensures write_faults { S.write_faults shelf.old ≤ S.write_faults shelf.new }
+        held (S.seen shelf.new).told name ≡ held (S.seen shelf.old).told name }
+    ensures quiet { IsQuiet (S.seen shelf.old) (S.seen shelf.new) }
 {
     for file in files {
         match write_all(shelf, &file.name, &file.text) {
             Ok(()) => {}
-            Err(WriteErr::Fault) => return Err(Stop::Unwritten { place: file.place }),
+            Err(WriteErr::Fault) => return Err(file.place),
         }
     }
     Ok(())

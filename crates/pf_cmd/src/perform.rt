@@ -1,18 +1,18 @@
 // A command from its first read to its last write.
-ghost use Rattle.std.specs.Prelude.{◌≡◌, ◌≢◌, ◌≤◌, List, ℕ, IfOk, IfErr, is_some};
-ghost use Rattle.pf_shelf.specs.Files.{Tells, held};
-ghost use Rattle.pf_cmd.specs.Causes.{seen};
-ghost use Rattle.pf_cmd.specs.Place.{name_of};
-ghost use Rattle.pf_cmd.specs.Shown.{stems_of, shown};
-ghost use Rattle.pf_cmd.specs.Ends.{replay_outcome, check_outcome, given_by, IsScaled, IsUnnamed, IsDone, Ends};
+ghost use Rattle.std.specs.Prelude.{◌≡◌, ◌≢◌, ◌≤◌, List, ℕ, IfOk, IfErr};
+ghost use Rattle.pf_shelf.specs.Files.{held};
+ghost use Rattle.pf_say.specs.Place.{name_of};
+ghost use Rattle.pf_say.specs.Shown.{stems_of};
+ghost use Rattle.pf_cmd.specs.Commands.{IsScaled, IsUnnamed};
+ghost use Rattle.pf_cmd.specs.Ends.{Finishes, Stops};
+ghost use Rattle.pf_cmd.specs.Shown.{shown};
 
 use crate::check::check_text;
 use crate::input::{Parted, read_parted};
 use crate::output::write_files;
-use crate::place::{Place, Stems};
 use crate::replay::{replay, replay_output};
-use crate::stop::Stop;
-use crate::words::Command;
+use crate::words::{Command, Task};
+use pf_say::{Place, Stems, Stop, Trouble};
 use pf_shelf::Shelf;
 use pf_tables::Parts;
 use std::alloc::Global;
@@ -24,18 +24,17 @@ pub(crate) fn perform<S: Shelf>(
     command: Command<'_>,
 ) -> Result<Vec<u8>, Stop>
     requires { IsScaled (shown command) }
-    ensures done { Tells (S.told shelf.old) → IfOk result (λ report.
-        IsDone (given_by (held (S.told shelf.old)) (shown command.entry)) (seen S.told S.read_faults S.write_faults S.misses shelf.old) (seen S.told S.read_faults S.write_faults S.misses shelf.new) report.items) }
-    ensures ends { IfErr result (Ends (given_by (held (S.told shelf.old)) (shown command.entry)) (seen S.told S.read_faults S.write_faults S.misses shelf.old) (seen S.told S.read_faults S.write_faults S.misses shelf.new)) }
+    ensures done { IfOk result (λ report.
+        Finishes (shown command.entry) (S.seen shelf.old) (S.seen shelf.new) report.items) }
+    ensures stops { IfErr result (Stops (shown command.entry) (S.seen shelf.old) (S.seen shelf.new)) }
 
     // Whatever it answers.
     ensures others { (name : List ℕ) → IsUnnamed (shown command.entry) name →
-        held (S.told shelf.new) name ≡ held (S.told shelf.old) name }
+        held (S.seen shelf.new).told name ≡ held (S.seen shelf.old).told name }
 {
-    let (stems, scale) = (command.stems(), command.scale());
-    match command {
-        Command::Replay { .. } => perform_replay(alloc, shelf, stems, scale),
-        Command::Check { .. } => perform_check(alloc, shelf, stems, scale),
+    match command.task {
+        Task::Replay => perform_replay(alloc, shelf, command.stems, command.scale),
+        Task::Check => perform_check(alloc, shelf, command.stems, command.scale),
     }
 }
 
@@ -47,16 +46,21 @@ fn perform_replay<S: Shelf>(
 ) -> Result<Vec<u8>, Stop>
     requires scale_low { 1 ≤ scale }
     requires scale_high { scale ≤ 1048576 }
-    ensures done { Tells (S.told shelf.old) → IfOk result (λ report.
-        IsDone (replay_outcome (held (S.told shelf.old)) (stems_of stems.entry) scale) (seen S.told S.read_faults S.write_faults S.misses shelf.old) (seen S.told S.read_faults S.write_faults S.misses shelf.new) report.items) }
-    ensures ends { IfErr result (Ends (replay_outcome (held (S.told shelf.old)) (stems_of stems.entry) scale) (seen S.told S.read_faults S.write_faults S.misses shelf.old) (seen S.told S.read_faults S.write_faults S.misses shelf.new)) }
-    ensures others { (name : List ℕ) → name ≢ name_of (stems_of stems.entry) Place.OutNode → name ≢ name_of (stems_of stems.entry) Place.OutEle → name ≢ name_of (stems_of stems.entry) Place.OutPart →
-        held (S.told shelf.new) name ≡ held (S.told shelf.old) name }
+    ensures done { IfOk result (λ report. Finishes record { task = Task.Replay; stems = stems_of stems.entry; scale = scale }
+        (S.seen shelf.old) (S.seen shelf.new) report.items) }
+    ensures stops { IfErr result (Stops record { task = Task.Replay; stems = stems_of stems.entry; scale = scale }
+        (S.seen shelf.old) (S.seen shelf.new)) }
+    ensures others { (name : List ℕ) → IsUnnamed record { task = Task.Replay; stems = stems_of stems.entry; scale = scale } name →
+        held (S.seen shelf.new).told name ≡ held (S.seen shelf.old).told name }
 {
     let after = replay(alloc, shelf, stems, scale)?;
     let output = replay_output(alloc, stems, &after)?;
-    write_files(shelf, &output.files)?;
-    Ok(output.report)
+    match write_files(shelf, &output.files) {
+        Ok(()) => Ok(output.report),
+        Err(place) => Err(Stop::Device {
+            trouble: Trouble::Unwritten { place },
+        }),
+    }
 }
 
 fn perform_check<S: Shelf>(
@@ -67,10 +71,11 @@ fn perform_check<S: Shelf>(
 ) -> Result<Vec<u8>, Stop>
     requires scale_low { 1 ≤ scale }
     requires scale_high { scale ≤ 1048576 }
-    ensures done { Tells (S.told shelf.old) → IfOk result (λ report.
-        IsDone (check_outcome (held (S.told shelf.old)) (stems_of stems.entry) scale) (seen S.told S.read_faults S.write_faults S.misses shelf.old) (seen S.told S.read_faults S.write_faults S.misses shelf.new) report.items) }
-    ensures ends { IfErr result (Ends (check_outcome (held (S.told shelf.old)) (stems_of stems.entry) scale) (seen S.told S.read_faults S.write_faults S.misses shelf.old) (seen S.told S.read_faults S.write_faults S.misses shelf.new)) }
-    ensures others { (name : List ℕ) → held (S.told shelf.new) name ≡ held (S.told shelf.old) name }
+    ensures done { IfOk result (λ report. Finishes record { task = Task.Check; stems = stems_of stems.entry; scale = scale }
+        (S.seen shelf.old) (S.seen shelf.new) report.items) }
+    ensures stops { IfErr result (Stops record { task = Task.Check; stems = stems_of stems.entry; scale = scale }
+        (S.seen shelf.old) (S.seen shelf.new)) }
+    ensures others { (name : List ℕ) → held (S.seen shelf.new).told name ≡ held (S.seen shelf.old).told name }
 {
     let Parted { listed, parts } = read_parted(alloc, shelf, stems, scale)?;
     let Parts { chunks, .. } = parts;

@@ -1,20 +1,23 @@
 // The replay of a journal on a mesh.
-ghost use Rattle.std.specs.Prelude.{◌≡◌, ◌≢◌, ℕ, ◌+◌, ◌<◌, ◌≤◌, [], ◌∷◌, Ok, Err, length, IfOk, IfErr, OnOk};
-ghost use Rattle.pf_shelf.specs.Files.{Tells, held};
+ghost use Rattle.std.specs.Prelude.{◌≡◌, ◌≢◌, ℕ, ◌+◌, ◌<◌, ◌≤◌, [], ◌∷◌, length, IfOk, IfErr, OnOk};
+ghost use Rattle.pf_shelf.specs.Files.{Tells};
 ghost use Rattle.pf_model.specs.Conforming.{IsLive};
-ghost use Rattle.pf_journal.specs.Entries.{HasTickets};
+ghost use Rattle.pf_model.specs.Replay.{HasTickets, replayed, first_refusal, IsLegal};
 ghost use Rattle.pf_model.specs.Texts.{replay_report};
-ghost use Rattle.pf_cmd.specs.Causes.{seen, IsOnlyRead, IsInner, Explains};
-ghost use Rattle.pf_cmd.specs.Shown.{stems_of};
-ghost use Rattle.pf_cmd.specs.Replay.{mesh_after, replay_in};
-ghost use Rattle.pf_cmd.specs.Output.{given_of, replay_given};
+ghost use Rattle.pf_say.specs.Shown.{stems_of};
+ghost use Rattle.pf_say.specs.Stop.{memory_stop};
+ghost use Rattle.pf_cmd.specs.Causes.{IsOnlyRead, IsQuiet, IsInner, Explains};
+ghost use Rattle.pf_cmd.specs.Input.{files_in};
+ghost use Rattle.pf_cmd.specs.Commands.{journalled_in, replay_texts, IsRefused};
+ghost use Rattle.pf_cmd.specs.Output.{given_of};
+ghost use Rattle.pf_cmd.specs.Shown.{IsReplayed};
 
 use crate::input::{Numbered, read_entries, read_numbered};
-use crate::output::{Output, out_file, put_line, put_mesh};
-use crate::place::{Place, Stems};
-use crate::stop::Stop;
+use crate::output::{Output, out_file, put_mesh};
 use pf_journal::ReplayErr;
 use pf_mesh::{Entry, Mesh};
+use pf_model::Refusal;
+use pf_say::{Place, Stems, Stop, Trouble, put_line};
 use pf_shelf::Shelf;
 use pf_tables::part_text;
 use std::alloc::{AllocError, Global};
@@ -37,12 +40,14 @@ pub(crate) fn replay<S: Shelf>(
 ) -> Result<Replayed, Stop>
     requires scale_low { 1 ≤ scale }
     requires scale_high { scale ≤ 1048576 }
-    ensures replayed { Tells (S.told shelf.old) → IfOk result (λ after.
-        replay_in (held (S.told shelf.old)) (stems_of stems.entry) scale ≡ Ok record { base = after.base; mesh = after.mesh.mesh; operations = after.operations }) }
+    ensures replayed { Tells (S.seen shelf.old).told →
+        IfOk result (IsReplayed scale (files_in (S.seen shelf.old) (stems_of stems.entry))) }
     ensures base { IfOk result (λ after. after.base ≤ 1) }
-    ensures stop { IfErr result (Explains (seen S.told S.read_faults S.write_faults S.misses shelf.old) (seen S.told S.read_faults S.write_faults S.misses shelf.new)
-        (replay_in (held (S.told shelf.old)) (stems_of stems.entry) scale)) }
-    ensures only_read { IsOnlyRead (seen S.told S.read_faults S.write_faults S.misses shelf.old) (seen S.told S.read_faults S.write_faults S.misses shelf.new) }
+    ensures stop { IfErr result (Explains
+        (Place.Node ∷ Place.Ele ∷ Place.Part ∷ Place.Size ∷ Place.Journal ∷ []) (S.seen shelf.old) (S.seen shelf.new)
+        (stems_of stems.entry) (journalled_in scale)) }
+    ensures quiet { IfOk result (λ _. IsQuiet (S.seen shelf.old) (S.seen shelf.new)) }
+    ensures only_read { IsOnlyRead (S.seen shelf.old) (S.seen shelf.new) }
 {
     let Numbered { base, mut mesh } = read_numbered(alloc, shelf, stems, scale)?;
     let entries = read_entries(alloc, shelf, stems, mesh.first_new())?;
@@ -62,8 +67,9 @@ pub(crate) fn replay_output(
     after: &Replayed,
 ) -> Result<Output, Stop>
     requires { after.now.base ≤ 1 }
-    ensures memory { IfErr result (λ stop. stop ≡ Stop.Memory) }
-    ensures output { IfOk result (λ output. given_of output ≡ replay_given (stems_of stems.entry) record { base = after.now.base; mesh = after.now.mesh.mesh; operations = after.now.operations }) }
+    ensures memory { IfErr result (λ stop. stop ≡ memory_stop) }
+    ensures output { IfOk result (λ output. given_of output
+        ≡ replay_texts (stems_of stems.entry) after.now.base after.now.mesh.mesh after.now.operations) }
 {
     let node_text = node_text(alloc, &after.mesh, after.base)?;
     let ele_text = ele_text(alloc, &after.mesh, after.base)?;
@@ -81,15 +87,24 @@ pub(crate) fn apply_all(mesh: &mut Mesh, entries: &[Entry]) -> Result<(), Stop>
     requires fresh { (n : ℕ) → IsLive mesh.old.mesh n → n < mesh.old.mesh.first_new }
     requires tickets { HasTickets entries.now }
     requires limit { mesh.old.mesh.first_new + length entries.now ≤ 1048576 }
-    ensures all { OnOk result (mesh_after mesh.old.mesh entries.now ≡ Ok mesh.new.mesh) }
-    ensures stop { IfErr result (λ stop. stop ≢ Stop.Memory → mesh_after mesh.old.mesh entries.now ≡ Err stop) }
+    ensures all { OnOk result (mesh.new.mesh ≡ replayed mesh.old.mesh entries.now) }
+    ensures legal { OnOk result (IsLegal mesh.old.mesh entries.now) }
+    ensures stop { IfErr result (λ stop. stop ≢ memory_stop → IsRefused (first_refusal mesh.old.mesh entries.now) stop) }
     ensures inner { IfErr result IsInner }
 {
     match pf_journal::replay(mesh, entries) {
         Ok(()) => Ok(()),
-        Err(ReplayErr::At { ticket, cond }) => Err(Stop::Fails { ticket, cond }),
-        Err(ReplayErr::Gone { ticket, node }) => Err(Stop::Gone { ticket, node }),
-        Err(ReplayErr::Memory) => Err(Stop::Memory),
+        Err(ReplayErr::At { ticket, cond }) => Err(Stop::Operation {
+            ticket,
+            why: Refusal::Failing { cond },
+        }),
+        Err(ReplayErr::Gone { ticket, node }) => Err(Stop::Operation {
+            ticket,
+            why: Refusal::Gone { node },
+        }),
+        Err(ReplayErr::Memory) => Err(Stop::Device {
+            trouble: Trouble::Memory,
+        }),
     }
 }
 

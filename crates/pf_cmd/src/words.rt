@@ -1,43 +1,52 @@
 // What the words of the command line ask for.
-ghost use Rattle.std.specs.Prelude.{◌≡◌, ◌≤◌, IfSome};
+ghost use Rattle.std.specs.Prelude.{◌≡◌, ◌≤◌, map, is_some, IfSome};
 ghost use Rattle.std.specs.Option.{option_map};
-ghost use Rattle.pf_cmd.specs.Words.{texts_of, has_dash, scale_from, scale_of, replay_of, check_of, command_of};
-ghost use Rattle.pf_cmd.specs.Shown.{shown};
-ghost use Rattle.pf_cmd.specs.Ends.{IsScaled};
+ghost use Rattle.pf_cmd.specs.Words.{texts_of, has_dash, scale_choice, replay_choices, check_choices, chosen, is_choice, has_word, are_choices, value_of, replay_of, check_of, command_of};
+ghost use Rattle.pf_cmd.specs.Commands.{IsScaled};
+ghost use Rattle.pf_cmd.specs.Shown.{shown, choice_of};
 
-use crate::place::Stems;
 use pf_lex::{Token, natural};
+use pf_say::Stems;
 
-/// A command, with what it needs. Coordinates that are read are multiplied by `scale`.
+/// What is to be done.
+#[derive(Clone, Copy, Debug, PartialEq, Eq)]
+pub(crate) enum Task {
+    /// A journal is replayed on a mesh.
+    Replay,
+    /// A mesh is checked.
+    Check,
+}
+
+/// A command, with the stems of its files. Coordinates that are read are multiplied by `scale`.
 #[derive(Clone, Copy, Debug)]
-pub(crate) enum Command<'a> {
-    Replay { stems: Stems<'a>, scale: u32 },
-    Check { base: &'a str, scale: u32 },
+pub(crate) struct Command<'a> {
+    pub(crate) task: Task,
+    pub(crate) stems: Stems<'a>,
+    pub(crate) scale: u32,
 }
 
-impl<'a> Command<'a> {
-    ghost use Rattle.pf_cmd.specs.Ends.{stems_in, scale_in};
-    ghost use Rattle.pf_cmd.specs.Shown.{stems_of};
-
-    /// The stems that the command names.
-    pub(crate) fn stems(self) -> Stems<'a>
-        ensures { stems_of result ≡ stems_in (shown self.entry) }
-    {
-        match self {
-            Command::Replay { stems, .. } => stems,
-            Command::Check { base, .. } => Stems { base, out: base },
-        }
-    }
-
-    /// What coordinates are multiplied by.
-    pub(crate) fn scale(self) -> u32
-        ensures { result ≡ scale_in (shown self.entry) }
-    {
-        match self {
-            Command::Replay { scale, .. } | Command::Check { scale, .. } => scale,
-        }
-    }
+/// An option of a command: its name, the least and the greatest value that it takes, and its value where it isn't given.
+#[derive(Clone, Copy, Debug)]
+pub(crate) struct Choice {
+    pub(crate) name: &'static str,
+    pub(crate) least: u64,
+    pub(crate) most: u64,
+    pub(crate) otherwise: u64,
 }
+
+// What coordinates are multiplied by.
+const SCALE: Choice = Choice {
+    name: "--scale",
+    least: 1,
+    most: 1_048_576,
+    otherwise: 1,
+};
+
+// The options of a replay.
+const REPLAY: [Choice; 1] = [SCALE];
+
+// The options of a check.
+const CHECK: [Choice; 1] = [SCALE];
 
 /// The command that the words ask for, or none where they are in no command's form.
 pub(crate) fn command_of<'a>(words: &'a [&'a str]) -> Option<Command<'a>>
@@ -63,13 +72,13 @@ fn replay_of<'a>(words: &'a [&'a str]) -> Option<Command<'a>>
     let [base, out, options @ ..] = words else {
         return None;
     };
-    if has_dash(base) || has_dash(out) {
+    if has_dash(base) || has_dash(out) || !are_choices(&REPLAY, options) {
         return None;
     }
-    let scale = scale_of(options)?;
-    Some(Command::Replay {
+    Some(Command {
+        task: Task::Replay,
         stems: Stems { base, out },
-        scale,
+        scale: scale_of(options),
     })
 }
 
@@ -80,35 +89,89 @@ fn check_of<'a>(words: &'a [&'a str]) -> Option<Command<'a>>
     let [base, options @ ..] = words else {
         return None;
     };
-    if has_dash(base) {
+    if has_dash(base) || !are_choices(&CHECK, options) {
         return None;
     }
-    let scale = scale_of(options)?;
-    Some(Command::Check { base, scale })
+    Some(Command {
+        task: Task::Check,
+        stems: Stems { base, out: base },
+        scale: scale_of(options),
+    })
 }
 
-fn scale_of(options: &[&str]) -> Option<u32>
-    ensures scale { result ≡ scale_of (texts_of options.now) }
-    ensures low { IfSome result (λ scale. 1 ≤ scale) }
-    ensures high { IfSome result (λ scale. scale ≤ 1048576) }
+// What coordinates are multiplied by, as the options say.
+fn scale_of(options: &[&str]) -> u32
+    ensures scale { result ≡ value_of scale_choice (texts_of options.now) }
+    ensures low { 1 ≤ result }
+    ensures high { result ≤ 1048576 }
 {
-    if options.is_empty() {
-        return Some(1);
-    }
-    let [name, value] = options else {
-        return None;
-    };
-    if *name == "--scale" {
-        scale_from(value)
-    } else {
-        None
+    value_of(SCALE, options) as u32
+}
+
+// Whether the words are options, each with its value behind its name, in any order, and each at most once.
+fn are_choices(choices: &[Choice], words: &[&str]) -> bool
+    ensures { result ≡ are_choices (map choice_of choices.now) (texts_of words.now) }
+{
+    match words {
+        [] => true,
+        [name, word, others @ ..] => {
+            is_choice(choices, name, word)
+                && !has_word(name, others)
+                && are_choices(choices, others)
+        }
+        _ => false,
     }
 }
 
-fn scale_from(word: &str) -> Option<u32>
-    ensures scale { result ≡ scale_from word.now }
-    ensures low { IfSome result (λ scale. 1 ≤ scale) }
-    ensures high { IfSome result (λ scale. scale ≤ 1048576) }
+// Whether the option of this name takes this value.
+fn is_choice(choices: &[Choice], name: &str, word: &str) -> bool
+    ensures { result ≡ is_choice (map choice_of choices.now) name.now word.now }
+{
+    for choice in choices {
+        if name == choice.name {
+            return chosen(*choice, word).is_some();
+        }
+    }
+    false
+}
+
+// Whether the word is among these.
+fn has_word(word: &str, words: &[&str]) -> bool
+    ensures { result ≡ has_word word.now (texts_of words.now) }
+{
+    for other in words {
+        if *other == word {
+            return true;
+        }
+    }
+    false
+}
+
+// The value of an option.
+fn value_of(choice: Choice, words: &[&str]) -> u64
+    requires low { choice.least ≤ choice.otherwise }
+    requires high { choice.otherwise ≤ choice.most }
+    ensures value { result ≡ value_of (choice_of choice) (texts_of words.now) }
+    ensures low { choice.least ≤ result }
+    ensures high { result ≤ choice.most }
+{
+    match words {
+        [name, word, others @ ..] => {
+            if *name == choice.name {
+                chosen(choice, word).unwrap_or(choice.otherwise)
+            } else {
+                value_of(choice, others)
+            }
+        }
+        _ => choice.otherwise,
+    }
+}
+
+// The value that a word gives an option: digits alone, in its range.
+fn chosen(choice: Choice, word: &str) -> Option<u64>
+    ensures value { result ≡ chosen (choice_of choice) word.now }
+    ensures low { IfSome result (λ value. choice.least ≤ value) }
+    ensures high { IfSome result (λ value. value ≤ choice.most) }
 {
     let token = Token {
         text: word.as_bytes(),
@@ -116,7 +179,7 @@ fn scale_from(word: &str) -> Option<u32>
         column: 1,
     };
     match natural(token) {
-        Ok(scale) if 1 <= scale && scale <= 1_048_576 => Some(scale as u32),
+        Ok(value) if choice.least <= value && value <= choice.most => Some(value),
         _ => None,
     }
 }

@@ -1,3 +1,3 @@
-mod EdgeLemmas
+mod Counts
 mod Places
 mod Totals

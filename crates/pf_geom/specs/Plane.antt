@@ -8,10 +8,14 @@ pub record IsWithin (most : ℕ) (z : ℤ) : Type 0 where
   pub low : neg_ℤ (pos most) ≤ℤ z
   pub high : z ≤ℤ pos most
 
+-- the greatest magnitude of a coordinate
+abbrev pub most_coordinate : ℕ
+most_coordinate = 268435456
+
 -- both coordinates have a magnitude of at most 268,435,456
 pub record IsInRange (p : Point) : Type 0 where
-  pub x : IsWithin 268435456 p.x
-  pub y : IsWithin 268435456 p.y
+  pub x : IsWithin most_coordinate p.x
+  pub y : IsWithin most_coordinate p.y
 
 -- twice the signed area of the triangle a, b, c: positive where the three points turn counterclockwise
 abbrev pub orient_of : Point → Point → Point → ℤ

@@ -6,7 +6,7 @@
 
 ghost use Rattle.std.specs.Prelude.{◌≡◌, pos, ◌+ℤ◌, ◌-ℤ◌, ◌*ℤ◌, ◌≤ℤ◌, ◌<ℤ◌, ◌↔◌, Some, None, IfSome, int_div, int_rem, if◌then◌else◌};
 ghost use Rattle.std.specs.Ordering.{int_eq};
-ghost use Rattle.pf_geom.specs.Plane.{IsInRange, IsWithin, orient_of, len2_of, middle_of};
+ghost use Rattle.pf_geom.specs.Plane.{IsInRange, IsWithin, most_coordinate, orient_of, len2_of, middle_of};
 ghost use Rattle.pf_geom.specs.Laws.{FlipCutsAgree};
 
 /// A point of the plane. Every call of this crate asks that both coordinates have a magnitude of at
@@ -16,6 +16,14 @@ pub struct Point {
     pub x: i32,
     pub y: i32,
 }
+
+/// The greatest magnitude of a coordinate.
+pub const MOST_COORDINATE: i32 = 268_435_456;
+
+/// A fact, and no work: the limit of the code is that of the definitions.
+pub fn limit_is_defined()
+    ensures { MOST_COORDINATE ≡ pos most_coordinate }
+{}
 
 /// Which way a path of three points turns.
 #[derive(Clone, Copy, Debug, PartialEq, Eq)]
@@ -98,10 +106,10 @@ pub fn middle(a: Point, b: Point) -> Option<Point>
 
 // Half the sum of two coordinates, or None where the sum is odd.
 fn half(p: i32, q: i32) -> Option<i32>
-    requires p_within { IsWithin 268435456 p }
-    requires q_within { IsWithin 268435456 q }
+    requires p_within { IsWithin most_coordinate p }
+    requires q_within { IsWithin most_coordinate q }
     ensures value { let sum = p +ℤ q in result ≡ (if int_eq (int_rem sum (pos 2)) (pos 0) then Some (int_div sum (pos 2)) else None) }
-    ensures within { IfSome result (IsWithin 268435456) }
+    ensures within { IfSome result (IsWithin most_coordinate) }
 {
     let sum = p + q;
     if sum % 2 == 0 { Some(sum / 2) } else { None }
@@ -109,8 +117,8 @@ fn half(p: i32, q: i32) -> Option<i32>
 
 // The difference of two coordinates.
 fn difference(p: i32, q: i32) -> i64
-    requires p_within { IsWithin 268435456 p }
-    requires q_within { IsWithin 268435456 q }
+    requires p_within { IsWithin most_coordinate p }
+    requires q_within { IsWithin most_coordinate q }
     ensures value { result ≡ p -ℤ q }
     ensures within { IsWithin 536870912 result }
 {
@@ -132,6 +140,3 @@ fn product(x: i64, y: i64) -> i64
 pub fn flip_cuts_agree()
     ensures { FlipCutsAgree }
 {}
-
-#[cfg(test)]
-mod tests;

@@ -1,4 +1,1 @@
-pub mod JournalReads
-pub mod ReadLemmas
-pub mod WriteLemmas
 pub mod ReplayLemmas

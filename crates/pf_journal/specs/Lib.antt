@@ -1,5 +1,2 @@
-pub mod Entries
-pub mod Journal
-pub mod EntryWords
-pub mod Laws
 pub mod Replay
+pub mod Stops

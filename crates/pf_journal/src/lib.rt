@@ -1,21 +1,9 @@
-//! The journal of a mesh's operations: its text, read and written, and its replay.
+//! The journal of a mesh's operations: its text, as [`journal_text`] reads and writes it, and its replay.
 //!
-//! `docs/formats.md` has the format. The reader answers the entries that a text says, or the text's
-//! first fault: lines are tested from the top, the words of a line from the left.
+//! `docs/formats.md` has the format.
 #![tactic(auto)]
 
-mod fault;
-mod laws;
-mod read;
 mod run;
-mod step;
-mod write;
 
-pub use fault::JourErr;
-pub use laws::journal_reads_again;
-pub use read::read_journal;
+pub use journal_text::{JourErr, journal_reads_again, journal_text, read_journal};
 pub use run::{ReplayErr, replay};
-pub use write::journal_text;
-
-#[cfg(test)]
-mod tests;

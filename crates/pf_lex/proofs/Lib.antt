@@ -1,5 +1,4 @@
 pub mod Examples
-pub mod Filled
 pub mod Laws
 pub mod LineLemmas
 pub mod NumberLaws

@@ -2,4 +2,3 @@ pub mod Text
 pub mod Token
 pub mod Number
 pub mod Written
-pub mod Steps

@@ -11,11 +11,7 @@
 
 mod number;
 mod scan;
-mod step;
-#[cfg(test)]
-mod tests;
 mod text;
 
 pub use number::{NumFault, natural, whole};
-pub use step::{WordFault, end_line, is_word, refused};
 pub use text::{Lines, Token, Words};

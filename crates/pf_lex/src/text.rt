@@ -44,8 +44,8 @@ impl<'a> Words<'a> {
         self.line
     }
 
-    // Whether nothing at all is left of the line, not even gaps or a comment.
-    pub(crate) fn is_at_end(&self) -> bool
+    /// Whether nothing at all is left of the line, not even gaps or a comment.
+    pub fn is_at_end(&self) -> bool
         ensures { IsTrue result → self.now.words ≡ [] }
     {
         self.rest.is_empty()
@@ -96,6 +96,7 @@ fn next_words<'a>(bytes: &'a [u8], number: u32) -> (Option<Words<'a>>, &'a [u8],
     requires in_range { number + length bytes.now ≤ 268435457 }
     ensures first { MatchOption result.0 (text_lines_from number bytes.now ≡ []) (λ words. text_lines_from number bytes.now ≡ words ∷ text_lines_from result.2 result.1.now) }
     ensures none_left { IfNone result.0 (text_lines_from result.2 result.1.now ≡ []) }
+    ensures has_word { IfSome result.0 (λ words. is_nonempty words.words ≡ true) }
     ensures past { lines_past_from result.2 result.1.now ≡ lines_past_from number bytes.now }
     ensures numbered { 0 < result.2 }
     ensures in_range { result.2 + length result.1.now ≤ 268435457 }
@@ -132,6 +133,7 @@ impl<'a> Lines<'a> {
     pub fn next_line(&mut self) -> Option<Words<'a>>
         ensures first { MatchOption result (self.old.left ≡ []) (λ words. self.old.left ≡ words ∷ self.new.left) }
         ensures none_left { IfNone result (self.new.left ≡ []) }
+        ensures has_word { IfSome result (λ words. is_nonempty words.words ≡ true) }
         ensures past { self.new.past ≡ self.old.past }
     {
         let (words, rest, line) = next_words(self.rest, self.line);

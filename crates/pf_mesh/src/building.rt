@@ -1,193 +1,63 @@
 //! A mesh from a list of points and a list of triangles.
-ghost use Rattle.std.specs.Prelude.{◌≡◌, ℕ, ◌*◌, ◌<◌, ◌≤◌, List, [], ◌∷◌, None, Some, All, MatchResult, Ok, Err, ◌≢◌, OnOk, IfOk, IfErr, ◌^◌, length, filter, vec_capacity};
-ghost use Rattle.std.specs.List.{list_any};
-ghost use Rattle.indexmap.specs.IndexMap.{spare};
+ghost use Rattle.std.specs.Prelude.{◌≡◌, ◌≤◌, ◌<◌, ◌^◌, All, Ok, Err, ◌≢◌, IfOk, length};
 ghost use Rattle.pf_geom.specs.Plane.{IsInRange};
-ghost use Rattle.pf_model.specs.declared.Tri.{Tri};
-ghost use Rattle.pf_model.specs.Clauses.{first_of};
-ghost use Rattle.pf_model.specs.Mesh.{has_corner, tri_lt};
-ghost use Rattle.pf_model.specs.Rising.{sorted_by};
-ghost use Rattle.pf_mesh.specs.Exchange.{AreSound};
-ghost use Rattle.pf_model.specs.Build.{turned_left, build_clauses, first_fault, default_band, built};
+ghost use Rattle.pf_model.specs.Build.{built};
 ghost use Rattle.pf_model.specs.Conforming.{IsConforming};
 ghost use Rattle.pf_model.specs.Tables.{AreListed};
 ghost use Rattle.pf_model.specs.declared.BuildErr.{BuildErr};
-ghost use Rattle.pf_mesh.specs.BuildSteps.{twice_of, earlier_from, live_sites, IsEmptyTable, AreEntered, ArePart};
-ghost use Rattle.pf_mesh.specs.Table.{ShowsTriangles, HasSamePlaces};
+ghost use Rattle.pf_mesh.specs.Room.{IsRoomFor};
 
 use crate::mesh::Mesh;
-use crate::table::{EdgeTable, Node, turned};
-use pf_geom::{NoMemory, Point, Turn, turn_of};
-use pf_model::{Band, BuildErr, Site, Tri};
+use pf_apply::building::{default_bands, enter_triangles, list_sites, sort_listed};
+use pf_edges::table::EdgeTable;
+use pf_geom::{NoMemory, Point};
+use pf_model::{BuildErr, Tri};
 use std::alloc::Global;
 
-// The first directed edge of the triangle that is in the table already.
-fn edge_twice(table: &EdgeTable, t: Tri) -> Option<BuildErr>
-    ensures { (earlier : List Tri) → ShowsTriangles table.now.sides table.now.nodes.items earlier → result ≡ twice_of earlier t }
-{
-    if table.side(t.a, t.b).is_some() {
-        return Some(BuildErr::EdgeTwice { a: t.a, b: t.b });
-    }
-    if table.side(t.b, t.c).is_some() {
-        return Some(BuildErr::EdgeTwice { a: t.b, b: t.c });
-    }
-    if table.side(t.c, t.a).is_some() {
-        return Some(BuildErr::EdgeTwice { a: t.c, b: t.a });
-    }
-    None
+/// Room for a mesh over some points, with some number of triangles.
+#[derive(Drop)]
+pub struct Room {
+    table: EdgeTable,
+    listed: Vec<Tri>,
 }
 
-// The triangle with these corners, counterclockwise, or its first fault.
-fn checked(
-    table: &EdgeTable,
-    points: &[Point],
-    tri: u32,
-    a: u32,
-    b: u32,
-    c: u32,
-) -> Result<Tri, BuildErr>
-    requires { All IsInRange points.now }
-    ensures { (earlier : List Tri) → ShowsTriangles table.now.sides table.now.nodes.items earlier
-        → MatchResult result
-        (λ t. (first_of (build_clauses points.now earlier tri (a ∷ b ∷ c ∷ [])) ≡ None) × (t ≡ turned_left points.now (a ∷ b ∷ c ∷ [])))
-        (λ e. first_of (build_clauses points.now earlier tri (a ∷ b ∷ c ∷ [])) ≡ Some e) }
+/// Makes room for a mesh over these points, with so many triangles.
+pub fn build_room(alloc: Global, points: &[Point], triangles: usize) -> Result<Room, NoMemory>
+    requires { triangles < 2 ^ 32 }
+    ensures { IfOk result (λ room. IsRoomFor points.now triangles room) }
 {
-    if a as usize >= points.len() {
-        return Err(BuildErr::BadNode { tri, node: a });
-    }
-    if b as usize >= points.len() {
-        return Err(BuildErr::BadNode { tri, node: b });
-    }
-    if c as usize >= points.len() {
-        return Err(BuildErr::BadNode { tri, node: c });
-    }
-    let t = match turn_of(points[a as usize], points[b as usize], points[c as usize]) {
-        Turn::Left => turned(a, b, c, 0),
-        Turn::Flat => return Err(BuildErr::Flat { tri }),
-        Turn::Right => turned(a, c, b, 0),
+    let Ok(table) = EdgeTable::of_points(alloc, points, triangles) else {
+        return Err(NoMemory);
     };
-    match edge_twice(table, t) {
-        Some(fault) => Err(fault),
-        None => Ok(t),
-    }
+    let Ok(listed) = Vec::with_capacity(alloc, triangles) else {
+        return Err(NoMemory);
+    };
+    Ok(Room { table, listed })
 }
 
-// The same for a triangle of the list.
-fn checked_corners(
-    table: &EdgeTable,
-    points: &[Point],
-    tri: u32,
-    corners: &[u32; 3],
-) -> Result<Tri, BuildErr>
-    requires { All IsInRange points.now }
-    ensures clauses { (earlier : List Tri) → ShowsTriangles table.now.sides table.now.nodes.items earlier
-        → MatchResult result
-        (λ t. (first_of (build_clauses points.now earlier tri corners.now) ≡ None) × (t ≡ turned_left points.now corners.now))
-        (λ e. first_of (build_clauses points.now earlier tri corners.now) ≡ Some e) }
-    ensures three { length corners.now ≡ 3 }
-{
-    checked(table, points, tri, corners[0], corners[1], corners[2])
-}
-
-// Enters each triangle, or finds the first fault.
-fn enter_triangles(
-    table: &mut EdgeTable,
-    listed: &mut Vec<Tri>,
+/// Does what `build` does, in room that was made for these points and so many triangles. A fault of the
+/// triangles is always the answer: `Memory` comes only where they make a mesh, whose nodes can't be listed.
+pub fn build_in(
+    alloc: Global,
+    room: Room,
     points: &[Point],
     tris: &[[u32; 3]],
-) -> Result<(), BuildErr>
-    requires in_range { All IsInRange points.now }
-    requires empty { IsEmptyTable table.old.sides table.old.nodes.items points.now }
-    requires few { length tris.now ≤ 2097152 }
-    requires room { 3 * length tris.now ≤ spare table.old.sides }
-    requires none { listed.old.items ≡ [] }
-    requires capacity { length tris.now ≤ vec_capacity listed.old }
-    ensures ok { OnOk result (first_fault points.now [] 0 tris.now ≡ None) }
-    ensures entered { OnOk result (AreEntered table.new.sides table.new.nodes.items points.now listed.new.items tris.now) }
-    ensures part { OnOk result (ArePart points.now (earlier_from points.now [] tris.now)) }
-    ensures places { HasSamePlaces table.old.nodes.items table.new.nodes.items }
-    ensures err { IfErr result (λ e. first_fault points.now [] 0 tris.now ≡ Some e) }
-{
-    let mut tri = 0;
-    for corners in tris {
-        let t = match checked_corners(table, points, tri, corners) {
-            Ok(t) => t,
-            Err(fault) => return Err(fault),
-        };
-        table.put(t);
-        listed.push(t).unwrap();
-        tri += 1;
-    }
-    Ok(())
-}
-
-/// Puts the triangles in rising order.
-pub(crate) fn sort_listed(listed: &mut Vec<Tri>)
-    requires { AreSound listed.old.items }
-    ensures { listed.new.items ≡ sorted_by tri_lt listed.old.items }
-{
-    listed.sort_unstable_by_key(|t| (t.a, t.b, t.c));
-}
-
-// The nodes with triangles, by rising name.
-fn list_sites(alloc: Global, nodes: &[Node]) -> Result<Vec<Site>, NoMemory>
-    requires { length nodes.now < 2 ^ 32 }
-    ensures { IfOk result (λ sites. sites.items ≡ live_sites 0 nodes.now) }
-{
-    let mut sites = Vec::new(alloc);
-    let mut name = 0;
-    for node in nodes {
-        if node.triangles > 0 && sites.push(Site { name, at: node.at }).is_err() {
-            return Err(NoMemory);
-        }
-        name += 1;
-    }
-    Ok(sites)
-}
-
-// The table of sizes where none is given: every length is allowed.
-fn default_bands(alloc: Global) -> Result<Vec<Band>, NoMemory>
-    ensures { IfOk result (λ bands. bands.items ≡ default_band ∷ []) }
-{
-    let mut bands = Vec::new(alloc);
-    let band = Band {
-        xlo: -268_435_456,
-        ylo: -268_435_456,
-        xhi: 268_435_456,
-        yhi: 268_435_456,
-        min2: 0,
-        max2: 1_152_921_504_606_846_976,
-    };
-    if bands.push(band).is_err() {
-        return Err(NoMemory);
-    }
-    Ok(bands)
-}
-
-/// Makes a mesh of one chunk, whose table of sizes allows every length, from a list of points and a list
-/// of triangles, each with three places of points as its corners.
-///
-/// Triangles are taken in order, and the first that has a fault is the answer: a corner that is no place
-/// (`BadNode`, the first such corner), corners on one line (`Flat`), or, after a clockwise triangle is
-/// turned round and the least corner put first, a directed edge that an earlier triangle has
-/// (`EdgeTwice`, the first such edge). Points in no triangle are dropped, and their places are never live
-/// names. `Memory` says that memory ran out.
-pub fn build(alloc: Global, points: &[Point], tris: &[[u32; 3]]) -> Result<Mesh, BuildErr>
+) -> Result<Mesh, BuildErr>
     requires few_points { length points.now ≤ 1048576 }
     requires few_tris { length tris.now ≤ 2097152 }
     requires in_range { All IsInRange points.now }
+    requires room { IsRoomFor points.now (length tris.now) room }
     ensures ok { IfOk result (λ m. built points.now tris.now ≡ Ok m.mesh) }
+    ensures found { (e : BuildErr) → built points.now tris.now ≡ Err e → result ≡ Err e }
     ensures fault { (e : BuildErr) → result ≡ Err e → e ≢ BuildErr.Memory → built points.now tris.now ≡ Err e }
     ensures conforming { IfOk result (λ m. IsConforming m.mesh) }
     // The list has a place for each triangle, as `with_tables` asks.
     ensures listed { IfOk result (λ m. AreListed tris.now m.mesh.tris) }
 {
-    let Ok(mut table) = EdgeTable::of_points(alloc, points, tris.len()) else {
-        return Err(BuildErr::Memory);
-    };
-    let Ok(mut listed) = Vec::with_capacity(alloc, tris.len()) else {
-        return Err(BuildErr::Memory);
-    };
+    let Room {
+        mut table,
+        mut listed,
+    } = room;
     match enter_triangles(&mut table, &mut listed, points, tris) {
         Ok(()) => {}
         Err(fault) => return Err(fault),
@@ -200,4 +70,29 @@ pub fn build(alloc: Global, points: &[Point], tris: &[[u32; 3]]) -> Result<Mesh,
         return Err(BuildErr::Memory);
     };
     Ok(Mesh::of_kept(points.len() as u32, table, sites, listed, bands, 1))
+}
+
+/// Makes a mesh of one chunk, whose table of sizes allows every length, from a list of points and a list
+/// of triangles, each with three places of points as its corners.
+///
+/// Triangles are taken in order, and the first that has a fault is the answer: a corner that is no place
+/// (`BadNode`, the first such corner), corners on one line (`Flat`), or, after a clockwise triangle is
+/// turned round and the least corner put first, a directed edge that an earlier triangle has
+/// (`EdgeTwice`, the first such edge). Points in no triangle are dropped, and their places are never live
+/// names. `Memory` says that memory ran out:
+/// before the first triangle was looked at, or once all were found right.
+pub fn build(alloc: Global, points: &[Point], tris: &[[u32; 3]]) -> Result<Mesh, BuildErr>
+    requires few_points { length points.now ≤ 1048576 }
+    requires few_tris { length tris.now ≤ 2097152 }
+    requires in_range { All IsInRange points.now }
+    ensures ok { IfOk result (λ m. built points.now tris.now ≡ Ok m.mesh) }
+    ensures fault { (e : BuildErr) → result ≡ Err e → e ≢ BuildErr.Memory → built points.now tris.now ≡ Err e }
+    ensures conforming { IfOk result (λ m. IsConforming m.mesh) }
+    // The list has a place for each triangle, as `with_tables` asks.
+    ensures listed { IfOk result (λ m. AreListed tris.now m.mesh.tris) }
+{
+    let Ok(room) = build_room(alloc, points, tris.len()) else {
+        return Err(BuildErr::Memory);
+    };
+    build_in(alloc, room, points, tris)
 }

@@ -1,46 +1,37 @@
 //! The undivided mesh.
-ghost use Rattle.std.specs.Prelude.{◌≡◌, ℕ, ◌+◌, ◌<◌, ◌≤◌, ◌↔◌, All, length, take, Option, Some, None, Err, OnOk, OnErr, IsOkAnd, IfOk, IfErr};
-ghost use Rattle.pf_geom.specs.Plane.{IsInRange};
+ghost use Rattle.std.specs.Prelude.{◌≡◌, ◌≢◌, ℕ, ◌+◌, ◌<◌, ◌≤◌, ◌↔◌, All, length, take, Some, None, Err, OnOk, OnErr, IsOkAnd, IfOk, IfErr};
 ghost use Rattle.pf_model.specs.declared.Cond.{Cond};
 ghost use Rattle.pf_model.specs.Mesh.{point_of};
-ghost use Rattle.pf_model.specs.Conforming.{IsLive, IsConforming, HasDefault};
-ghost use Rattle.pf_model.specs.Ends.{AreEndsLive, first_end, second_end, gone_end};
+ghost use Rattle.pf_model.specs.Conforming.{IsConforming, HasDefault};
+ghost use Rattle.pf_model.specs.Ends.{AreEndsLive, gone_end};
 ghost use Rattle.pf_model.specs.Conditions.{first_failing};
 ghost use Rattle.pf_model.specs.Applied.{IsFresh, applied, op_applied};
-ghost use Rattle.pf_model.specs.Replay.{replayed};
-ghost use Rattle.pf_model.specs.Sums.{area2_of};
+ghost use Rattle.pf_model.specs.Replay.{HasTickets, IsLegal, first_refusal, replayed};
+ghost use Rattle.std.specs.Option.{option_map};
+ghost use Rattle.pf_model.specs.Sums.{area2_of, euler_of};
 ghost use Rattle.pf_model.specs.Tables.{AreListed, with_tables_of};
 ghost use Rattle.pf_model.specs.Wishes.{rest_of};
-ghost use Rattle.pf_mesh.specs.Mesh.{mesh_of, IsKept};
-ghost use Rattle.pf_mesh.specs.Operations.{CanApply, IsChange};
-ghost use Rattle.pf_mesh.specs.Run.{HasTickets, ArePassed, IsStopped};
+ghost use Rattle.pf_cover_model.specs.Alike.{CoversAlike, KeepsFans};
+ghost use Rattle.pf_edges.specs.Kept.{mesh_of, IsKept};
+ghost use Rattle.pf_rules.specs.Change.{CanApply, IsChange};
+ghost use Rattle.pf_apply.specs.Run.{IsStopped, stop_of};
 
-use crate::change::Change;
-use crate::parts;
-use crate::relist::{relist_sites, relist_tris};
-use crate::run::{RunErr, run};
-use crate::scratch::Scratch;
-use crate::table::EdgeTable;
-use crate::tables::{own_listed, own_tris};
+use pf_apply::parts;
+use pf_apply::relist::{relist_sites, relist_tris};
+use pf_apply::run::{ApplyErr, RunErr, run_entries};
+use pf_apply::tables::{own_listed, own_tris};
+use pf_edges::table::EdgeTable;
 use pf_geom::{NoMemory, Point};
+use pf_judge::operations::{condition, ends, plan};
 use pf_model::{Band, Cond, Entry, Op, RestLine, Site, Tri};
+use pf_rest::lines::rest;
+use pf_rules::change::Change;
+use pf_rules::scratch::Scratch;
 use std::alloc::Global;
 use std::marker::Model;
-use thiserror::Error;
 
 // How many names there are, those of the points and one for each operation.
 const MOST_NAMES: usize = 1_048_576;
-
-/// Why an entry isn't applied.
-#[derive(Clone, Copy, Debug, PartialEq, Eq, Error)]
-pub enum ApplyErr {
-    #[error("the operation fails a condition")]
-    Refused { cond: Cond },
-    #[error("node {node} isn't live")]
-    Gone { node: u32 },
-    #[error("memory ran out")]
-    Memory,
-}
 
 /// A conforming, positive mesh: whoever holds one holds a mesh whose triangles have live and distinct
 /// corners and turn left, whose directed edges stand in one triangle each, whose live nodes are all in a
@@ -58,7 +49,8 @@ pub struct Mesh {
 impl Model for Mesh {
     ghost use Rattle.std.specs.Prelude.{◌-◌, vec_len, vec_capacity};
     ghost use Rattle.indexmap.specs.IndexMap.{spare};
-    ghost use Rattle.pf_mesh.specs.Mesh.{MeshValue, mesh_of, room_of, IsKept};
+    ghost use Rattle.pf_edges.specs.Kept.{mesh_of, IsKept};
+    ghost use Rattle.pf_mesh.specs.Mesh.{MeshValue, room_of};
 
     ghost Value = { MeshValue };
 
@@ -178,7 +170,7 @@ impl Mesh {
         requires { AreEndsLive self.now.mesh op }
         ensures { result ≡ first_failing self.now.mesh chunk op }
     {
-        self.table.condition(&self.bands, chunk, op)
+        condition(&self.table, &self.bands, chunk, op)
     }
 
     /// The rest list: a line for each edge that is longer than its band allows, with the edge where the walk
@@ -191,7 +183,7 @@ impl Mesh {
     pub fn rest(&self, alloc: Global) -> Result<Vec<RestLine>, NoMemory>
         ensures { IfOk result (λ lines. lines.items ≡ rest_of self.now.mesh) }
     {
-        let lines = self.table.rest(alloc, &self.tris, &self.bands)?;
+        let lines = rest(&self.table, alloc, &self.tris, &self.bands)?;
         Ok(lines)
     }
 
@@ -228,6 +220,11 @@ impl Mesh {
         // An operation keeps the mesh conforming, and twice its area.
         ensures conforming { IsConforming self.new.mesh }
         ensures area { area2_of self.new.mesh ≡ area2_of self.old.mesh }
+
+        // It covers no point more or less often than before, and keeps the Euler number and each node's one fan.
+        ensures cover { CoversAlike self.old.mesh self.new.mesh }
+        ensures euler { euler_of self.new.mesh ≡ euler_of self.old.mesh }
+        ensures fans { KeepsFans self.old.mesh self.new.mesh }
     {
         if let Some(node) = self.gone_node(e.op) {
             return Err(ApplyErr::Gone { node });
@@ -278,6 +275,11 @@ impl Mesh {
         // An operation keeps the mesh conforming, and twice its area.
         ensures conforming { IsConforming self.new.mesh }
         ensures area { area2_of self.new.mesh ≡ area2_of self.old.mesh }
+
+        // It covers no point more or less often than before, and keeps the Euler number and each node's one fan.
+        ensures cover { CoversAlike self.old.mesh self.new.mesh }
+        ensures euler { euler_of self.new.mesh ≡ euler_of self.old.mesh }
+        ensures fans { KeepsFans self.old.mesh self.new.mesh }
     {
         let name = self.first_new() + e.ticket;
         let mut scratch = Scratch::new();
@@ -304,13 +306,20 @@ impl Mesh {
         requires tickets { HasTickets entries.now }
         requires named { self.old.mesh.first_new + length entries.now ≤ 1048576 }
         ensures replayed { OnOk result (self.new.mesh ≡ replayed self.old.mesh entries.now) }
-        ensures passed { OnOk result (ArePassed self.old.mesh entries.now) }
+        ensures legal { OnOk result (IsLegal self.old.mesh entries.now) }
+        ensures passed { OnOk result (first_refusal self.old.mesh entries.now ≡ None) }
+        ensures refused { IfErr result (λ stop. stop.fault ≢ ApplyErr.Memory → option_map stop_of (first_refusal self.old.mesh entries.now) ≡ Some stop) }
         ensures stopped { IfErr result (λ stop. IsStopped self.old.mesh entries.now stop.ticket stop.fault) }
         ensures before { IfErr result (λ stop. self.new.mesh ≡ replayed self.old.mesh (take stop.ticket entries.now)) }
 
         // A run keeps the mesh conforming, and twice its area.
         ensures conforming { IsConforming self.new.mesh }
         ensures area { area2_of self.new.mesh ≡ area2_of self.old.mesh }
+
+        // It covers no point more or less often than before, and keeps the Euler number and each node's one fan.
+        ensures cover { CoversAlike self.old.mesh self.new.mesh }
+        ensures euler { euler_of self.new.mesh ≡ euler_of self.old.mesh }
+        ensures fans { KeepsFans self.old.mesh self.new.mesh }
     {
         let first_new = self.first_new();
         if entries.is_empty() {
@@ -318,7 +327,7 @@ impl Mesh {
         }
         self.sites.clear();
         self.tris.clear();
-        let ran = run(
+        let ran = run_entries(
             &mut self.table,
             &mut self.sites,
             &mut self.tris,
@@ -341,7 +350,7 @@ impl Mesh {
         ensures cond { result ≡ first_failing self.now.mesh chunk op }
         ensures change { result ≡ None → IsChange self.now.mesh n op scratch.new.change.gone.items scratch.new.change.new.items }
     {
-        self.table.plan(&self.bands, chunk, n, op, scratch)
+        plan(&self.table, &self.bands, chunk, n, op, scratch)
     }
 
     // Performs an operation that passes. A bisection's new node is named `n`. All room is made before
@@ -370,17 +379,5 @@ impl Mesh {
             change,
         );
         Ok(())
-    }
-}
-
-/// The two ends of an operation, as written.
-pub(crate) fn ends(op: Op) -> (u32, u32)
-    ensures first { result.0 ≡ first_end op }
-    ensures second { result.1 ≡ second_end op }
-{
-    match op {
-        Op::Flip { a, b } => (a, b),
-        Op::Bisect { a, b } => (a, b),
-        Op::Contract { u, v } => (u, v),
     }
 }

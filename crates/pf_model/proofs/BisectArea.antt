@@ -1,20 +1,22 @@
 -- A bisection that passes keeps twice the area.
 -- Assumes `IsConforming m`, that `first_failing` is None, and that each live name is below the new one (`IsFresh`).
-use Rattle.std.proofs.Common.{◌≡◌, ℕ, ◌+◌, List, [], ◌∷◌, ◌++◌, refl, sym, subst, Bool, true, false, ◌⊎◌, inl, inr, arith, ◌||◌}
+use Rattle.std.proofs.Common.{◌≡◌, ℕ, ◌+◌, List, [], ◌∷◌, ◌++◌, refl, sym, subst, true, ◌⊎◌, inl, inr, arith}
 use Rattle.std.specs.Prelude.{Contains, filter, Option, Some, None, min, max, ℤ, pos, ◌+ℤ◌}
 use Rattle.std.proofs.lemmas.Int.{ints}
 use Rattle.std.proofs.lemmas.List.Elements.{Contains-append_cases, Contains-append_left, Contains-append_right}
+use Rattle.std.proofs.lemmas.Bool.{or_cases}
 use Rattle.pf_geom.specs.declared.Point.{Point}
 use Rattle.pf_geom.specs.Plane.{middle_of}
 use Rattle.pf_model.specs.declared.Tri.{Tri}
 use Rattle.pf_model.specs.declared.Op.TheVariants.{Bisect}
-use Rattle.pf_model.specs.Mesh.{Undivided, Side, tri_of, tri_lt, has_edge, apex_in, side_of, turn_at, place_of, is_edge}
+use Rattle.pf_model.specs.declared.Side.{Side}
+use Rattle.pf_model.specs.Mesh.{Undivided, tri_of, tri_lt, has_edge, apex_in, side_of, turn_at, place_of, is_edge}
 use Rattle.pf_model.specs.Conforming.{IsConforming}
 use Rattle.pf_model.specs.Applied.{IsFresh, applied, replaced, is_at_edge, halves_of, bisected, new_site}
 use Rattle.pf_model.specs.Conditions.{first_failing}
 use Rattle.pf_model.specs.Sums.{total, area2_of}
 use Rattle.pf_model.proofs.Members.{nowhere, here, cases}
-use Rattle.pf_model.proofs.Triangles.{IsLeastFirst, IsEdge, tri_of-edges, tri_of-edge_one, tri_of-apex, tri_lt-order}
+use Rattle.pf_model.proofs.Triangles.{IsEdge, tri_of-edges, tri_of-edge_one, tri_of-apex, tri_lt-order, least_first}
 use Rattle.pf_model.proofs.Turns.{turn_at-tri_of}
 use Rattle.pf_model.proofs.ReadClauses.{BisectPasses, bisect_passes}
 use Rattle.pf_model.proofs.Kept.{side_of-stands, side_of-found}
@@ -23,9 +25,6 @@ use Rattle.pf_model.proofs.Totals.{total-replaced, total-removed, total-append, 
 use Rattle.pf_model.proofs.SitesAfter.{AreBelow}
 use Rattle.pf_model.proofs.FlipKeeps.{AreCorners, corners_of}
 use Rattle.pf_model.proofs.BisectKeeps.{added, after, turn_old, first_half, second_half, is_middle, removed_by_first, removed_by_second}
-
-least_first : (m : Undivided) → IsConforming m → (t : Tri) → Contains m.tris t → IsLeastFirst t
-least_first m ok t h = let p = ok.proper t h in record { least = p.least; least' = p.least'; apart = p.apart }
 
 -- the triangle left of the directed edge p to q, where there is one
 abbrev old_of : ℕ → ℕ → Option Side → List Tri
@@ -72,10 +71,6 @@ module _ (m : Undivided) (ok : IsConforming m) (n lo hi : ℕ) (mid : Point) (fr
           let b2 = d.distinct.two in let b3 = d.distinct.three in
           grind arith
 
-  or-holds : (a b : Bool) → (a || b) ≡ true → (a ≡ true) ⊎ (b ≡ true)
-  or-holds true b k = inl refl
-  or-holds false b k = inr k
-
   total-bisect_removed : (g : Tri → ℤ) → total g (filter (is_at_edge lo hi) m.tris) ≡ total g gone
   total-bisect_removed g =
       total-removed g tri_lt tri_lt-order (is_at_edge lo hi) gone m.tris ok.tris_rise (shares_none-apart gone (shares_none-append (old_of lo hi (side_of m.tris lo hi)) (old_of hi lo (side_of m.tris hi lo)) (old_alone lo hi (side_of m.tris lo hi)) (old_alone hi lo (side_of m.tris hi lo)) old_parts)) forth back
@@ -87,7 +82,7 @@ module _ (m : Undivided) (ok : IsConforming m) (n lo hi : ℕ) (mid : Point) (fr
       ]
 
       back : (z : Tri) → Contains m.tris z → is_at_edge lo hi z ≡ true → Contains gone z
-      back z h e = elim (or-holds (has_edge lo hi z) (has_edge hi lo z) e) [ inl x ↦ Contains-append_left (old_of lo hi (side_of m.tris lo hi)) (old_of hi lo (side_of m.tris hi lo)) z (old-has lo hi z h x) | inr x ↦ Contains-append_right (old_of lo hi (side_of m.tris lo hi)) (old_of hi lo (side_of m.tris hi lo)) z (old-has hi lo z h x) ]
+      back z h e = elim (or_cases (has_edge lo hi z) (has_edge hi lo z) e) [ inl x ↦ Contains-append_left (old_of lo hi (side_of m.tris lo hi)) (old_of hi lo (side_of m.tris hi lo)) z (old-has lo hi z h x) | inr x ↦ Contains-append_right (old_of lo hi (side_of m.tris lo hi)) (old_of hi lo (side_of m.tris hi lo)) z (old-has hi lo z h x) ]
 
   -- a triangle that is cut has the area of its halves
   side_area : (p q : ℕ) → ((p ≡ lo) × (q ≡ hi)) ⊎ ((p ≡ hi) × (q ≡ lo)) → (s : Option Side) → side_of m.tris p q ≡ s → total turn_after (halves_of n p q s) ≡ total turn_after (old_of p q s)

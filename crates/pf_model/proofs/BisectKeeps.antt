@@ -1,21 +1,24 @@
 -- A bisection that passes keeps a mesh conforming, in all its parts.
 -- Assumes `IsConforming m`, that `first_failing` is None, and that each live name is below the new one (`IsFresh`).
-use Rattle.std.proofs.Common.{◌≡◌, ◌≢◌, ℕ, ◌+◌, ◌<◌, List, [], ◌∷◌, ◌++◌, refl, sym, ◌∙◌, ap, subst, Bool, true, false, ◌⊎◌, inl, inr, arith, ◌||◌}
+use Rattle.std.proofs.Common.{◌≡◌, ◌≢◌, ℕ, ◌+◌, ◌<◌, List, [], ◌∷◌, ◌++◌, refl, sym, ◌∙◌, ap, subst, Bool, true, false, ◌⊎◌, inl, inr, arith}
 use Rattle.std.specs.Prelude.{Contains, Option, Some, None, is_some, unwrap_or, min, max, ℤ, pos, ◌+ℤ◌, ◌<ℤ◌, nat_eq}
 use Rattle.std.proofs.lemmas.Int.{ints}
 use Rattle.std.proofs.lemmas.Bool.Decides.{nat_tests}
 use Rattle.std.proofs.lemmas.List.Elements.{Contains-append_cases, Contains-append_left, Contains-append_right}
+use Rattle.std.proofs.lemmas.Bool.{or_cases}
+use Rattle.std.proofs.Math.Bool.{or-true}
 use Rattle.pf_geom.specs.declared.Point.{Point}
 use Rattle.pf_geom.specs.Plane.{IsInRange, middle_of}
 use Rattle.pf_model.specs.declared.Tri.{Tri}
 use Rattle.pf_model.specs.declared.Site.{Site}
 use Rattle.pf_model.specs.declared.Op.TheVariants.{Bisect}
-use Rattle.pf_model.specs.Mesh.{Undivided, Side, tri_of, has_edge, has_corner, apex_in, side_of, point_of, place_of, turn_at, is_edge}
+use Rattle.pf_model.specs.declared.Side.{Side}
+use Rattle.pf_model.specs.Mesh.{Undivided, tri_of, has_edge, has_corner, apex_in, side_of, point_of, place_of, turn_at, is_edge}
 use Rattle.pf_model.specs.Conforming.{IsConforming, IsLive}
 use Rattle.pf_model.specs.Applied.{IsFresh, applied, replaced, is_at_edge, halves_of, bisected, new_site}
 use Rattle.pf_model.specs.Conditions.{first_failing}
 use Rattle.pf_model.proofs.Members.{nowhere, here, there, cases}
-use Rattle.pf_model.proofs.Triangles.{IsLeastFirst, IsEdge, tri_of-edges, tri_of-edge_one, tri_of-edge_two, tri_of-edge_three, tri_of-corners, tri_of-corner, tri_of-owner, tri_of-apex, has_corner-means, has_edge-means}
+use Rattle.pf_model.proofs.Triangles.{IsEdge, tri_of-edges, tri_of-edge_one, tri_of-edge_two, tri_of-edge_three, tri_of-corners, tri_of-corner, tri_of-owner, tri_of-apex, has_corner-means, has_edge-means, least_first}
 use Rattle.pf_model.proofs.Turns.{distinct_from_turn, turn_at-tri_of}
 use Rattle.pf_model.proofs.Middles.{IsMiddle, IsMiddle-in_range, middle_of-some, orient_of-first_half, orient_of-second_half}
 use Rattle.pf_model.proofs.SitesAfter.{AreBelow, point_of-append, point_of-past, point_of-site, fresh_not_live, sites_rise_push}
@@ -24,15 +27,8 @@ use Rattle.pf_model.proofs.Kept.{Meets, any-means, side_of-stands, side_of-found
 use Rattle.pf_model.proofs.Replacement.{Parts, SharesNone, shares_none-append, patched, IsGood, IsUsed, patched_conforms}
 use Rattle.pf_model.proofs.FlipKeeps.{AreCorners, corners_of, proper_tri, opposite_apexes}
 
-least_first : (m : Undivided) → IsConforming m → (t : Tri) → Contains m.tris t → IsLeastFirst t
-least_first m ok t h = let p = ok.proper t h in record { least = p.least; least' = p.least'; apart = p.apart }
-
 half_positive : (x y : ℤ) → x +ℤ x ≡ y → pos 0 <ℤ y → pos 0 <ℤ x
 half_positive x y e h = omega (arith, ints)
-
-or-holds : (a b : Bool) → (a || b) ≡ true → (a ≡ true) ⊎ (b ≡ true)
-or-holds true b k = inl refl
-or-holds false b k = inr k
 
 module _ (m : Undivided) (ok : IsConforming m) (n lo hi : ℕ) (mid : Point) (fresh : AreBelow m.sites n) (middle : middle_of (place_of m lo) (place_of m hi) ≡ Some mid) (edge : is_edge m.tris lo hi ≡ true) where
   abbrev pub sites : List Site
@@ -190,11 +186,7 @@ module _ (m : Undivided) (ok : IsConforming m) (n lo hi : ℕ) (mid : Point) (fr
   removed_by_first t e = rw e refl
 
   pub removed_by_second : (t : Tri) → has_edge hi lo t ≡ true → removed t ≡ true
-  removed_by_second t e = rw e (or_true (has_edge lo hi t))
-    where
-      or_true : (b : Bool) → (b || true) ≡ true
-      or_true true = refl
-      or_true false = refl
+  removed_by_second t e = rw e (or-true (has_edge lo hi t))
 
   bisect_meets : Meets removed added m.tris
   bisect_meets s t x y hs ht ks kt = elim (added-means s hs) [ inl h ↦ half_meets lo hi removed_by_first s t x y h ht ks kt | inr h ↦ half_meets hi lo removed_by_second s t x y h ht ks kt ]
@@ -314,7 +306,7 @@ module _ (m : Undivided) (ok : IsConforming m) (n lo hi : ℕ) (mid : Point) (fr
       used_by p q record { apex = apex_in p q t; owner = t.owner } (side_of-found m.tris ok.edges_once p q t h e) in' k (inl (tri_of-corners k p q (apex_in p q t) t.owner (subst (λ w. has_corner k w ≡ true) (sym same) c)))
 
   bisect_used : (k : ℕ) → IsLive after k → IsUsed removed added m.tris k
-  bisect_used k l = elim (live_cases k l) [ inl old ↦ by_old (any-means (has_corner k) m.tris (ok.used k old)) | inr e ↦ by_new (or-holds (is_some (side_of m.tris lo hi)) (is_some (side_of m.tris hi lo)) edge) e ]
+  bisect_used k l = elim (live_cases k l) [ inl old ↦ by_old (any-means (has_corner k) m.tris (ok.used k old)) | inr e ↦ by_new (or_cases (is_some (side_of m.tris lo hi)) (is_some (side_of m.tris hi lo)) edge) e ]
     where
       by_new : (is_some (side_of m.tris lo hi) ≡ true) ⊎ (is_some (side_of m.tris hi lo) ≡ true) → k ≡ n → IsUsed removed added m.tris k
       by_new (inl a) e = let s = is_some-holds _ a in used_by lo hi s.0 s.1 in_first k (inr e)
@@ -325,11 +317,11 @@ module _ (m : Undivided) (ok : IsConforming m) (n lo hi : ℕ) (mid : Point) (fr
         where
           at_test : (b : Bool) → removed w.0 ≡ b → IsUsed removed added m.tris k
           at_test false e = inr (w.0, w.1, e, w.2)
-          at_test true e = elim (or-holds (has_edge lo hi w.0) (has_edge hi lo w.0) e) [ inl x ↦ used_cut lo hi in_first w.0 w.1 x k w.2 | inr x ↦ used_cut hi lo in_second w.0 w.1 x k w.2 ]
+          at_test true e = elim (or_cases (has_edge lo hi w.0) (has_edge hi lo w.0) e) [ inl x ↦ used_cut lo hi in_first w.0 w.1 x k w.2 | inr x ↦ used_cut hi lo in_second w.0 w.1 x k w.2 ]
 
   -- both ends are live
   ends_live : IsLive m lo × IsLive m hi
-  ends_live = elim (or-holds (is_some (side_of m.tris lo hi)) (is_some (side_of m.tris hi lo)) edge) [
+  ends_live = elim (or_cases (is_some (side_of m.tris lo hi)) (is_some (side_of m.tris hi lo)) edge) [
     | inl a ↦ (let s = is_some-holds _ a in let c = corners_of m ok lo hi s.0.apex s.0.owner (side_of-stands m.tris (least_first m ok) lo hi s.0 s.1) in (c.live_p, c.live_q))
     | inr a ↦ (let s = is_some-holds _ a in let c = corners_of m ok hi lo s.0.apex s.0.owner (side_of-stands m.tris (least_first m ok) hi lo s.0 s.1) in (c.live_q, c.live_p))
   ]

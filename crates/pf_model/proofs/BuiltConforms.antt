@@ -6,6 +6,7 @@ use Rattle.std.specs.List.{list_any}
 use Rattle.std.proofs.lemmas.Int.{ints}
 use Rattle.std.proofs.lemmas.List.Elements.{Contains-get_or}
 use Rattle.std.proofs.lemmas.Bool.Decides.{nat_tests, Decides-int_eq}
+use Rattle.std.proofs.lemmas.Bool.{eqb-true}
 use Rattle.pf_geom.specs.declared.Point.{Point}
 use Rattle.pf_geom.specs.Plane.{IsInRange, orient_of}
 use Rattle.pf_geom.proofs.Orientations.{orient_of-swapped, orient_of-turned}
@@ -116,9 +117,6 @@ same-test a b e = grind (arith, nat_tests)
 other-test : (a b : ℕ) → a ≢ b → (a == b) ≡ false
 other-test a b n = grind (arith, nat_tests)
 
-test-same : (a b : ℕ) → (a == b) ≡ true → a ≡ b
-test-same a b e = grind (arith, nat_tests)
-
 -- the point of a name that passes a test, among the sites that do
 site_found : (used : ℕ → Bool) (points : List Point) (k n name : ℕ) → name ≡ k + n → n < length points → used name ≡ true → point_of (filter (λ s. used s.name) (sites_from k points)) name ≡ Some (point_at points n)
 site_found used [] k n name e l u = absurd (omega arith)
@@ -142,7 +140,7 @@ site_used used [] name h = absurd (let w : false ≡ true = h in cc)
 site_used used (s ∷ ss) name h = go (used s.name) refl h (λ k. site_used used ss name k)
   where
     at : (b : Bool) → (s.name == name) ≡ b → used s.name ≡ true → is_some (cond b (Some s.at) (point_of (filter (λ s. used s.name) ss) name)) ≡ true → (is_some (point_of (filter (λ s. used s.name) ss) name) ≡ true → used name ≡ true) → used name ≡ true
-    at true e u k ih = subst (λ w. used w ≡ true) (test-same s.name name e) u
+    at true e u k ih = subst (λ w. used w ≡ true) (eqb-true s.name name e) u
     at false e u k ih = ih k
 
     go : (b : Bool) → used s.name ≡ b → is_some (point_of (cond b (s ∷ filter (λ s. used s.name) ss) (filter (λ s. used s.name) ss)) name) ≡ true → (is_some (point_of (filter (λ s. used s.name) ss) name) ≡ true → used name ≡ true) → used name ≡ true

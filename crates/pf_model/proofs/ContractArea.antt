@@ -1,9 +1,10 @@
 -- A contraction that passes keeps twice the area.
 -- Assumes `IsConforming m` and that `first_failing` is None.
-use Rattle.std.proofs.Common.{◌≡◌, ℕ, List, [], ◌∷◌, refl, sym, ◌∙◌, ap, subst, Bool, true, false, cond, ◌⊎◌, inl, inr, arith, ◌&&◌, ◌||◌}
+use Rattle.std.proofs.Common.{◌≡◌, ℕ, List, [], ◌∷◌, refl, sym, ◌∙◌, ap, subst, Bool, true, false, cond, inl, inr, arith, ◌&&◌, ◌||◌}
 use Rattle.std.specs.Prelude.{Contains, filter, filter_map, not, Some, None, is_some, unwrap_or, ℤ, pos, ◌+ℤ◌, ◌-ℤ◌, ◌==◌}
 use Rattle.std.specs.List.{cons_option}
 use Rattle.std.proofs.lemmas.Int.{ints}
+use Rattle.std.proofs.lemmas.Bool.{not-true, or_cases}
 use Rattle.pf_model.specs.declared.Tri.{Tri}
 use Rattle.pf_model.specs.declared.Spoke.{Spoke}
 use Rattle.pf_model.specs.declared.Op.TheVariants.{Contract}
@@ -14,7 +15,7 @@ use Rattle.pf_model.specs.Conditions.{first_failing}
 use Rattle.pf_model.specs.Stars.{spoke_of, spoke_lt, spokes_of, is_on_boundary, path_start, path_end}
 use Rattle.pf_model.specs.Sums.{total, cross_of, area2_of}
 use Rattle.pf_model.proofs.Members.{here, there, filter-out}
-use Rattle.pf_model.proofs.Triangles.{IsLeastFirst, tri_of-corners, tri_of-turned}
+use Rattle.pf_model.proofs.Triangles.{tri_of-corners, tri_of-turned, least_first}
 use Rattle.pf_model.proofs.Turns.{turn_at-tri_of, turn_at-turned, orient_of-over}
 use Rattle.pf_geom.proofs.Orientations.{orient_of-twice, orient_of-swapped}
 use Rattle.pf_model.proofs.Kept.{side_of-stands}
@@ -26,9 +27,6 @@ use Rattle.pf_model.proofs.ReadClauses.{is_some-holds}
 use Rattle.pf_model.proofs.ContractClauses.{ContractPasses, contract_passes}
 use Rattle.pf_model.proofs.FlipKeeps.{corners_of}
 use Rattle.pf_model.proofs.ContractKeeps.{corner_at, moved-none, added, after, turn_after, added-means, no_corner}
-
-least_first : (m : Undivided) → IsConforming m → (t : Tri) → Contains m.tris t → IsLeastFirst t
-least_first m ok t h = let p = ok.proper t h in record { least = p.least; least' = p.least'; apart = p.apart }
 
 spoke_of-not : (m : Undivided) (n : ℕ) (t : Tri) → has_corner n t ≡ false → spoke_of m n t ≡ None
 spoke_of-not m n t h = go (t.a == n) (t.b == n) (t.c == n) h
@@ -47,10 +45,6 @@ spoke_of-not m n t h = go (t.a == n) (t.b == n) (t.c == n) h
     go false true c k = absurd (let z : true ≡ false = k in cc)
     go false false true k = absurd (let z : true ≡ false = k in cc)
     go false false false k = refl
-
-or-holds : (a b : Bool) → (a || b) ≡ true → (a ≡ true) ⊎ (b ≡ true)
-or-holds true b k = inl refl
-or-holds false b k = inr k
 
 -- sums of two sums
 total-plus : {X : Type 0} (f g k : X → ℤ) (xs : List X) → ((x : X) → f x ≡ g x +ℤ k x) → total f xs ≡ total g xs +ℤ total k xs
@@ -136,7 +130,7 @@ module _ (m : Undivided) (ok : IsConforming m) (u v : ℕ) (p : ContractPasses m
   belongs w = cross_of (place_of m u) (place_of m w) -ℤ cross_of (place_of m v) (place_of m w)
 
   some_spoke : (s : Spoke) × Contains (spokes_of m u) s
-  some_spoke = elim (or-holds (is_some (side_of m.tris u v)) (is_some (side_of m.tris v u)) p.edge) [
+  some_spoke = elim (or_cases (is_some (side_of m.tris u v)) (is_some (side_of m.tris v u)) p.edge) [
     | inl a ↦ (let s = is_some-holds _ a in let r = spokes-has m ok u v s.0.apex s.0.owner (side_of-stands m.tris (least_first m ok) u v s.0 s.1) in (r.0, r.1))
     | inr a ↦ (let s = is_some-holds _ a in
         let st = side_of-stands m.tris (least_first m ok) v u s.0 s.1 in
@@ -201,11 +195,7 @@ module _ (m : Undivided) (ok : IsConforming m) (u v : ℕ) (p : ContractPasses m
       same t e = turn_after m ok u v p t.a t.b t.c (no_corner m ok u v p t t.a e (inl refl)) (no_corner m ok u v p t t.b e (inr (inl refl))) (no_corner m ok u v p t t.c e (inr (inr refl)))
 
       kept_same : (t : Tri) → Contains (filter (λ t. not (has_corner u t)) m.tris) t → turn_then t ≡ turn_in t
-      kept_same t h = same t (not_true (has_corner u t) (filter-out (λ t. not (has_corner u t)) t m.tris h).1)
-        where
-          not_true : (b : Bool) → not b ≡ true → b ≡ false
-          not_true true e = absurd (let z : false ≡ true = e in cc)
-          not_true false e = refl
+      kept_same t h = same t (not-true (has_corner u t) (filter-out (λ t. not (has_corner u t)) t m.tris h).1)
 
       new_same : (t : Tri) → Contains (added m ok u v p) t → turn_then t ≡ turn_in t
       new_same t h = same t (no_u (has_corner u t) refl)

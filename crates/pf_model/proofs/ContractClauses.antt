@@ -1,9 +1,10 @@
 -- A contraction that passes, as one record of facts on spokes.
-use Rattle.std.proofs.Common.{◌≡◌, ◌≢◌, ℕ, List, [], ◌∷◌, refl, sym, ◌∙◌, ap, subst, Bool, true, false, cond, ◌⊎◌, inl, inr, arith, ◌&&◌, ◌||◌}
+use Rattle.std.proofs.Common.{◌≡◌, ◌≢◌, ℕ, List, [], ◌∷◌, refl, sym, ◌∙◌, ap, subst, Bool, true, false, cond, ◌⊎◌, inl, inr, ◌&&◌, ◌||◌}
 use Rattle.std.specs.Prelude.{pos, ◌<ℤ◌, not, Option, Some, None, min, ◌==◌, nat_lt, Contains, filter, fold, map, unwrap_or, length}
 use Rattle.std.specs.Ordering.{int_eq}
-use Rattle.std.proofs.lemmas.Bool.Decides.{nat_tests, Decides-int_eq}
+use Rattle.std.proofs.lemmas.Bool.Decides.{Decides-int_eq}
 use Rattle.std.proofs.lemmas.List.Elements.{Contains-append_left, Contains-append_right}
+use Rattle.std.proofs.lemmas.Bool.{eqb-false, eqb-true, ne_eqb, or_cases}
 use Rattle.pf_model.specs.declared.Spoke.{Spoke}
 use Rattle.pf_model.specs.declared.Cond.{Cond}
 use Rattle.pf_model.specs.declared.Cond.TheVariants.{NoEdge, Foreign, TooWide, Pinched, Corner, OffBoundary, LinkNode, Inverts}
@@ -45,14 +46,11 @@ inverted-none m v (r ∷ rs) h s c nr nl = go (not (r.right == v || r.left == v)
     test false false true e f g = refl
     test false false false e f g = absurd (let z : true ≡ false = e in cc)
 
-    differs : (a b : ℕ) → a ≢ b → (a == b) ≡ false
-    differs a b n = grind (arith, nat_tests)
-
     go : (b : Bool) → (not (r.right == v || r.left == v) && not (is_positive (turn_at m v r.right r.left))) ≡ b → cond b (Some (Inverts r.right r.left)) (inverted m v rs) ≡ None → (s ≡ r) ⊎ Contains rs s → (inverted m v rs ≡ None → Contains rs s → pos 0 <ℤ turn_at m v s.right s.left) → pos 0 <ℤ turn_at m v s.right s.left
     go true e f k ih = absurd (let z : Some (Inverts r.right r.left) ≡ None = f in cc)
     go false e f (inl x) ih =
-        let a : (r.right == v) ≡ false = differs r.right v (λ q. nr (ap (λ w. w.right) x ∙ q)) in
-        let b : (r.left == v) ≡ false = differs r.left v (λ q. nl (ap (λ w. w.left) x ∙ q)) in
+        let a : (r.right == v) ≡ false = ne_eqb r.right v (λ q. nr (ap (λ w. w.right) x ∙ q)) in
+        let b : (r.left == v) ≡ false = ne_eqb r.left v (λ q. nl (ap (λ w. w.left) x ∙ q)) in
         let p = is_positive-holds (turn_at m v r.right r.left) (test (r.right == v) (r.left == v) _ e a b) in
         subst (λ w. pos 0 <ℤ turn_at m v w.right w.left) (sym x) p
     go false e f (inr x) ih = ih f x
@@ -67,20 +65,10 @@ pub record ContractPasses (m : Undivided) (u v : ℕ) : Type 0 where
   pub link : (x : ℕ) → Contains (neighbours (spokes_of m u)) x → is_neighbour x (spokes_of m v) ≡ true → (is_apex x (side_of m.tris u v) || is_apex x (side_of m.tris v u)) ≡ true
   pub turns : (s : Spoke) → Contains (spokes_of m u) s → s.right ≢ v → s.left ≢ v → pos 0 <ℤ turn_at m v s.right s.left
 
-apart_by_test : (a b : ℕ) → (a == b) ≡ false → a ≢ b
-apart_by_test a b h = grind (arith, nat_tests)
-
-eq_holds : (a b : ℕ) → (a == b) ≡ true → a ≡ b
-eq_holds a b h = grind (arith, nat_tests)
-
 implied : (a b : Bool) → (a && not b) ≡ false → a ≡ true → b ≡ true
 implied true true h e = refl
 implied true false h e = absurd (let z : true ≡ false = h in cc)
 implied false b h e = absurd (let z : false ≡ true = e in cc)
-
-or-holds : (a b : Bool) → (a || b) ≡ true → (a ≡ true) ⊎ (b ≡ true)
-or-holds true b k = inl refl
-or-holds false b k = inr k
 
 pub contract_passes : (m : Undivided) (chunk u v : ℕ) → first_failing m chunk (Contract u v) ≡ None → ContractPasses m u v
 contract_passes m chunk u v h =
@@ -98,11 +86,11 @@ contract_passes m chunk u v h =
     let eight = first_of-none (inverted m v us) _ seven.1 in
     let differ = or-false (u == v) _ (when-none _ _ one.0) in
     record {
-      apart = apart_by_test u v differ.0;
+      apart = eqb-false u v differ.0;
       edge = not-false _ differ.1;
       fan = not-false _ (when-none _ _ four.0);
       straight = λ b. (Decides-int_eq (turn_at m (unwrap_or (path_start (spokes_of m u) (spokes_of m u)) 0) u (unwrap_or (path_end (spokes_of m u) (spokes_of m u)) 0)) (pos 0)).0 (implied _ _ (when-none _ _ five.0) b);
-      onto = λ b. elim (or-holds (p == v) (q == v) (implied _ _ (when-none _ _ six.0) b)) [ inl x ↦ inl (eq_holds _ v x) | inr x ↦ inr (eq_holds _ v x) ];
+      onto = λ b. elim (or_cases (p == v) (q == v) (implied _ _ (when-none _ _ six.0) b)) [ inl x ↦ inl (eqb-true _ v x) | inr x ↦ inr (eqb-true _ v x) ];
       link = λ x c n. implied (is_neighbour x (spokes_of m v)) _ (least_that-none (λ x. is_neighbour x (spokes_of m v) && not (is_apex x (side_of m.tris u v) || is_apex x (side_of m.tris v u))) (neighbours (spokes_of m u)) x (when_some-none _ _ seven.0) c) n;
       turns = inverted-none m v (spokes_of m u) eight.0;
     }

@@ -5,18 +5,20 @@ use Rattle.std.specs.Prelude.{Contains, not, Option, Some, None, is_some, unwrap
 use Rattle.std.proofs.lemmas.Int.{ints}
 use Rattle.std.proofs.lemmas.Bool.Decides.{nat_tests}
 use Rattle.std.proofs.lemmas.List.Elements.{Contains-append_cases, Contains-append_left, Contains-append_right}
+use Rattle.std.proofs.lemmas.Bool.{cases_Bool, cases_eq, eqb-true, or_cases}
 use Rattle.pf_model.specs.Rising.{AreDifferent}
 use Rattle.pf_model.specs.declared.Tri.{Tri}
 use Rattle.pf_model.specs.declared.Site.{Site}
 use Rattle.pf_model.specs.declared.Spoke.{Spoke}
 use Rattle.pf_model.specs.declared.Op.TheVariants.{Contract}
-use Rattle.pf_model.specs.Mesh.{Undivided, Side, tri_of, has_edge, has_corner, apex_in, side_of, point_of, place_of, turn_at}
+use Rattle.pf_model.specs.declared.Side.{Side}
+use Rattle.pf_model.specs.Mesh.{Undivided, tri_of, has_edge, has_corner, apex_in, side_of, point_of, place_of, turn_at}
 use Rattle.pf_model.specs.Conforming.{IsConforming, IsLive}
 use Rattle.pf_model.specs.Applied.{applied, moved_of}
 use Rattle.pf_model.specs.Conditions.{first_failing, is_apex, neighbours}
 use Rattle.pf_model.specs.Stars.{spokes_of, is_neighbour, path_end}
 use Rattle.pf_model.proofs.Members.{nowhere, here, there, cases, filter-out}
-use Rattle.pf_model.proofs.Triangles.{IsLeastFirst, IsEdge, tri_of-edges, tri_of-edge_one, tri_of-edge_two, tri_of-edge_three, tri_of-corners, tri_of-corner, tri_of-owner, tri_of-apex, tri_of-turned}
+use Rattle.pf_model.proofs.Triangles.{IsLeastFirst, IsEdge, tri_of-edges, tri_of-edge_one, tri_of-edge_two, tri_of-edge_three, tri_of-corners, tri_of-corner, tri_of-owner, tri_of-apex, tri_of-turned, least_first}
 use Rattle.pf_model.proofs.Turns.{AreDistinct, distinct_from_turn, turn_at-tri_of, turn_at-turned}
 use Rattle.pf_geom.proofs.Orientations.{orient_of-swapped}
 use Rattle.pf_model.proofs.Kept.{Meets, any-from, any-means, side_of-stands}
@@ -28,23 +30,6 @@ use Rattle.pf_model.proofs.Spokes.{spokes-means, spokes-has, spokes-simple, risi
 use Rattle.pf_model.proofs.ReadClauses.{is_some-holds}
 use Rattle.pf_model.proofs.ContractClauses.{ContractPasses, contract_passes, right_is_neighbour, left_is_neighbour}
 use Rattle.pf_model.proofs.FlipKeeps.{corners_of, proper_tri}
-
-least_first : (m : Undivided) → IsConforming m → (t : Tri) → Contains m.tris t → IsLeastFirst t
-least_first m ok t h = let p = ok.proper t h in record { least = p.least; least' = p.least'; apart = p.apart }
-
-bool_cases : (b : Bool) → (b ≡ true) ⊎ (b ≡ false)
-bool_cases true = inl refl
-bool_cases false = inr refl
-
-eq_or_not : (a b : ℕ) → (a ≡ b) ⊎ (a ≢ b)
-eq_or_not a b = grind arith
-
-eq_holds : (a b : ℕ) → (a == b) ≡ true → a ≡ b
-eq_holds a b h = grind (arith, nat_tests)
-
-or-holds : (a b : Bool) → (a || b) ≡ true → (a ≡ true) ⊎ (b ≡ true)
-or-holds true b k = inl refl
-or-holds false b k = inr k
 
 pub flat_map-out : {X Y : Type 0} (h : X → List Y) (xs : List X) (y : Y) → Contains (flat_map h xs) y → (x : X) × Contains xs x × Contains (h x) y
 flat_map-out h [] y c = absurd (nowhere y c)
@@ -80,9 +65,9 @@ corner_at u v t l h = go (t.a == u) (t.b == u) (t.c == u) refl refl refl h
         inner i j = cond i (tri_of v t.b t.c t.owner) (cond j (tri_of v t.c t.a t.owner) (tri_of v t.a t.b t.owner))
 
     go : (a b c : Bool) → (t.a == u) ≡ a → (t.b == u) ≡ b → (t.c == u) ≡ c → (a || (b || c)) ≡ true → IsAt u v t
-    go true b c ea eb ec k = record { x = t.b; y = t.c; is = one (eq_holds t.a u ea); moved = opened true b ea eb }
-    go false true c ea eb ec k = record { x = t.c; y = t.a; is = two (eq_holds t.b u eb); moved = opened false true ea eb }
-    go false false true ea eb ec k = record { x = t.a; y = t.b; is = three (eq_holds t.c u ec); moved = opened false false ea eb }
+    go true b c ea eb ec k = record { x = t.b; y = t.c; is = one (eqb-true t.a u ea); moved = opened true b ea eb }
+    go false true c ea eb ec k = record { x = t.c; y = t.a; is = two (eqb-true t.b u eb); moved = opened false true ea eb }
+    go false false true ea eb ec k = record { x = t.a; y = t.b; is = three (eqb-true t.c u ec); moved = opened false false ea eb }
     go false false false ea eb ec k = absurd (let z : false ≡ true = k in cc)
 
 pub moved-none : (u v : ℕ) (t : Tri) → (has_corner u t && not (has_corner v t)) ≡ false → moved_of u v t ≡ []
@@ -186,7 +171,7 @@ module _ (m : Undivided) (ok : IsConforming m) (u v : ℕ) (p : ContractPasses m
 
   apex_means : (x : ℕ) (o : Option Side) → is_apex x o ≡ true → (s : Side) × (o ≡ Some s) × (s.apex ≡ x)
   apex_means x None h = absurd (let e : false ≡ true = h in cc)
-  apex_means x (Some s) h = (s, refl, eq_holds s.apex x h)
+  apex_means x (Some s) h = (s, refl, eqb-true s.apex x h)
 
   pub apex_stands : (a b x : ℕ) → is_apex x (side_of m.tris a b) ≡ true → (o : ℕ) × Contains m.tris (tri_of a b x o)
   apex_stands a b x h =
@@ -216,7 +201,7 @@ module _ (m : Undivided) (ok : IsConforming m) (u v : ℕ) (p : ContractPasses m
       let st' : Contains m.tris (tri_of v x (apex_in v x t) t.owner) = subst (λ w. Contains m.tris w) (sym same) h in
       let su = spokes-has m ok u x y o st in
       let c = subst (λ w. Contains (neighbours (spokes_of m u)) w) su.2 (right_is_neighbour (spokes_of m u) su.0 su.1) in
-      elim (or-holds (is_apex x (side_of m.tris u v)) (is_apex x (side_of m.tris v u)) (p.link x c (neighbour_right x _ _ st'))) [
+      elim (or_cases (is_apex x (side_of m.tris u v)) (is_apex x (side_of m.tris v u)) (p.link x c (neighbour_right x _ _ st'))) [
         | inl a ↦ (let r = apex_stands u v x a in removed_by t (tri_of u v x r.0) v x h r.1 k (tri_of-edge_two u v x r.0) (tri_of-corner u u v x r.0 (inl refl)))
         | inr a ↦ absurd (let r = apex_stands v u x a in
             let e = ok.edges_once (tri_of v u x r.0) (tri_of u x y o) u x r.1 st (tri_of-edge_two v u x r.0) (tri_of-edge_one u x y o) in
@@ -234,7 +219,7 @@ module _ (m : Undivided) (ok : IsConforming m) (u v : ℕ) (p : ContractPasses m
       let st' : Contains m.tris (tri_of v (apex_in y v t) y t.owner) = subst (λ w. Contains m.tris w) (tri_of-turned y v (apex_in y v t) t.owner d0.one d0.two d0.three) st0 in
       let su = spokes-has m ok u x y o st in
       let c = subst (λ w. Contains (neighbours (spokes_of m u)) w) su.3 (left_is_neighbour (spokes_of m u) su.0 su.1) in
-      elim (or-holds (is_apex y (side_of m.tris u v)) (is_apex y (side_of m.tris v u)) (p.link y c (neighbour_left _ y _ st'))) [
+      elim (or_cases (is_apex y (side_of m.tris u v)) (is_apex y (side_of m.tris v u)) (p.link y c (neighbour_left _ y _ st'))) [
         | inl a ↦ absurd (let r = apex_stands u v y a in
             let e = ok.edges_once (tri_of u v y r.0) (tri_of u x y o) y u r.1 st (tri_of-edge_three u v y r.0) (tri_of-edge_three u x y o) in
             let z = apex_same m ok u v y r.0 x y o r.1 st e in
@@ -266,7 +251,7 @@ module _ (m : Undivided) (ok : IsConforming m) (u v : ℕ) (p : ContractPasses m
   live_after k n l = ap is_some (point_of-without u k m.sites n) ∙ l
 
   live_before : (k : ℕ) → IsLive after k → (k ≢ u) × IsLive m k
-  live_before k l = elim (eq_or_not k u) [
+  live_before k l = elim (cases_eq k u) [
     | inl e ↦ absurd (let g : is_some (point_of sites u) ≡ false = ap is_some (point_of-gone u m.sites) in let l' : is_some (point_of sites u) ≡ true = subst (λ w. is_some (point_of sites w) ≡ true) e l in let z : true ≡ false = sym l' ∙ g in cc)
     | inr n ↦ (n, sym (ap is_some (point_of-without u k m.sites n)) ∙ l)
   ]
@@ -298,7 +283,7 @@ module _ (m : Undivided) (ok : IsConforming m) (u v : ℕ) (p : ContractPasses m
       subst (λ w. pos 0 <ℤ turn_at m v x w) s.3 t1
 
   v_live : IsLive m v
-  v_live = elim (or-holds (is_some (side_of m.tris u v)) (is_some (side_of m.tris v u)) p.edge) [
+  v_live = elim (or_cases (is_some (side_of m.tris u v)) (is_some (side_of m.tris v u)) p.edge) [
     | inl a ↦ (let s = is_some-holds _ a in (corners_of m ok u v s.0.apex s.0.owner (side_of-stands m.tris (least_first m ok) u v s.0 s.1)).live_q)
     | inr a ↦ (let s = is_some-holds _ a in (corners_of m ok v u s.0.apex s.0.owner (side_of-stands m.tris (least_first m ok) v u s.0 s.1)).live_p)
   ]
@@ -340,7 +325,7 @@ module _ (m : Undivided) (ok : IsConforming m) (u v : ℕ) (p : ContractPasses m
     where
       list_has : (ss : List Spoke) → IsRight ss y ⊎ (IsRight ss y → ⊥)
       list_has [] = inr (λ k. nowhere k.0 k.1)
-      list_has (s ∷ ss) = elim (eq_or_not s.right y) [ inl e ↦ inl (s, here s ss, e) | inr n ↦ elim (list_has ss) [ inl r ↦ inl (r.0, there r.0 s ss r.1, r.2) | inr k ↦ inr (λ c. elim (cases c.0 s ss c.1) [ inl e ↦ n (ap (λ w. w.right) (sym e) ∙ c.2) | inr r ↦ k (c.0, r, c.2) ]) ] ]
+      list_has (s ∷ ss) = elim (cases_eq s.right y) [ inl e ↦ inl (s, here s ss, e) | inr n ↦ elim (list_has ss) [ inl r ↦ inl (r.0, there r.0 s ss r.1, r.2) | inr k ↦ inr (λ c. elim (cases c.0 s ss c.1) [ inl e ↦ n (ap (λ w. w.right) (sym e) ∙ c.2) | inr r ↦ k (c.0, r, c.2) ]) ] ]
 
       no : (IsRight (spokes_of m u) y → ⊥) → ⊥
       no n =
@@ -364,7 +349,7 @@ module _ (m : Undivided) (ok : IsConforming m) (u v : ℕ) (p : ContractPasses m
     where
       list_has : (ss : List Spoke) → IsLeft ss x ⊎ (IsLeft ss x → ⊥)
       list_has [] = inr (λ k. nowhere k.0 k.1)
-      list_has (s ∷ ss) = elim (eq_or_not s.left x) [ inl e ↦ inl (s, here s ss, e) | inr n ↦ elim (list_has ss) [ inl r ↦ inl (r.0, there r.0 s ss r.1, r.2) | inr k ↦ inr (λ c. elim (cases c.0 s ss c.1) [ inl e ↦ n (ap (λ w. w.left) (sym e) ∙ c.2) | inr r ↦ k (c.0, r, c.2) ]) ] ]
+      list_has (s ∷ ss) = elim (cases_eq s.left x) [ inl e ↦ inl (s, here s ss, e) | inr n ↦ elim (list_has ss) [ inl r ↦ inl (r.0, there r.0 s ss r.1, r.2) | inr k ↦ inr (λ c. elim (cases c.0 s ss c.1) [ inl e ↦ n (ap (λ w. w.left) (sym e) ∙ c.2) | inr r ↦ k (c.0, r, c.2) ]) ] ]
 
       no : (IsLeft (spokes_of m u) x → ⊥) → ⊥
       no n =
@@ -385,7 +370,7 @@ module _ (m : Undivided) (ok : IsConforming m) (u v : ℕ) (p : ContractPasses m
 
   -- each corner but u of a triangle at u is a corner after
   used_by : (x y o k : ℕ) → Contains m.tris (tri_of u x y o) → (x ≡ k) ⊎ (y ≡ k) → IsUsed removed added m.tris k
-  used_by x y o k h c = go (eq_or_not x v) (eq_or_not y v)
+  used_by x y o k h c = go (cases_eq x v) (cases_eq y v)
     where
       d : AreDistinct u x y
       d = (corners_of m ok u x y o h).distinct
@@ -410,7 +395,7 @@ module _ (m : Undivided) (ok : IsConforming m) (u v : ℕ) (p : ContractPasses m
   contract_used k l = let b = live_before k l in go b.0 (any-means (has_corner k) m.tris (ok.used k b.1))
     where
       go : k ≢ u → (t : Tri) × Contains m.tris t × (has_corner k t ≡ true) → IsUsed removed added m.tris k
-      go n w = elim (bool_cases (removed w.0)) [ inr e ↦ inr (w.0, w.1, e, w.2) | inl e ↦ at_u (corner_at u v w.0 (least_first m ok w.0 w.1) e) ]
+      go n w = elim (cases_Bool (removed w.0)) [ inr e ↦ inr (w.0, w.1, e, w.2) | inl e ↦ at_u (corner_at u v w.0 (least_first m ok w.0 w.1) e) ]
         where
           at_u : IsAt u v w.0 → IsUsed removed added m.tris k
           at_u i =

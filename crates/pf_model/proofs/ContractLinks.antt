@@ -1,17 +1,18 @@
 -- A contraction that passes meets the link condition.
 -- Assumes `IsConforming m` and that `first_failing` is None.
-use Rattle.std.proofs.Common.{◌≡◌, ℕ, refl, sym, ◌∙◌, ap, subst, Bool, true, false, ◌⊎◌, inl, inr, arith, ◌&&◌, ◌||◌}
+use Rattle.std.proofs.Common.{◌≡◌, ℕ, refl, sym, ◌∙◌, ap, subst, Bool, true, false, ◌⊎◌, inl, inr, arith, ◌&&◌}
 use Rattle.std.specs.Prelude.{Contains, not, Option, Some, None, is_some, unwrap_or, ℤ, pos, ◌+ℤ◌, ◌<ℤ◌}
 use Rattle.std.proofs.lemmas.Int.{ints}
-use Rattle.pf_model.specs.declared.Tri.{Tri}
+use Rattle.std.proofs.lemmas.Bool.{not-true, or_cases}
 use Rattle.pf_model.specs.declared.Spoke.{Spoke}
 use Rattle.pf_model.specs.declared.Op.TheVariants.{Contract}
-use Rattle.pf_model.specs.Mesh.{Undivided, Side, tri_of, side_of, turn_at, place_of}
+use Rattle.pf_model.specs.declared.Side.{Side}
+use Rattle.pf_model.specs.Mesh.{Undivided, tri_of, side_of, turn_at, place_of}
 use Rattle.pf_model.specs.Conforming.{IsConforming}
 use Rattle.pf_model.specs.Conditions.{first_failing, is_apex, neighbours}
 use Rattle.pf_model.specs.Stars.{spokes_of, is_boundary_edge, is_neighbour, is_on_boundary, path_start, path_end}
 use Rattle.pf_model.specs.Links.{HasTriangle, IsLinkEdge, IsLinkVertex, IsOpposite, MeetsLinkCondition}
-use Rattle.pf_model.proofs.Triangles.{IsLeastFirst, tri_of-edge_one, tri_of-turned, side_of-none}
+use Rattle.pf_model.proofs.Triangles.{tri_of-edge_one, tri_of-turned, side_of-none, least_first}
 use Rattle.pf_model.proofs.Turns.{AreDistinct, orient_of-faces}
 use Rattle.pf_model.proofs.Kept.{side_of-stands}
 use Rattle.pf_model.proofs.ReadClauses.{is_some-holds, is_some-none, and-true}
@@ -22,19 +23,8 @@ use Rattle.pf_model.proofs.ContractClauses.{ContractPasses, contract_passes, rig
 use Rattle.pf_model.proofs.FlipKeeps.{corners_of}
 use Rattle.pf_model.proofs.ContractKeeps.{apex_stands, neighbour_right, neighbour_left, after_v, before_v}
 
-least_first : (m : Undivided) → IsConforming m → (t : Tri) → Contains m.tris t → IsLeastFirst t
-least_first m ok t h = let p = ok.proper t h in record { least = p.least; least' = p.least'; apart = p.apart }
-
-or-holds : (a b : Bool) → (a || b) ≡ true → (a ≡ true) ⊎ (b ≡ true)
-or-holds true b k = inl refl
-or-holds false b k = inr k
-
 not_both : (b : Bool) → b ≡ true → b ≡ false → ⊥
 not_both b e f = let y : true ≡ false = sym e ∙ f in cc
-
-not-true : (b : Bool) → not b ≡ true → b ≡ false
-not-true true e = absurd (let z : false ≡ true = e in cc)
-not-true false e = refl
 
 module _ (m : Undivided) (ok : IsConforming m) (u v : ℕ) (p : ContractPasses m u v) where
   -- the triangle a, b, c stands
@@ -75,7 +65,7 @@ module _ (m : Undivided) (ok : IsConforming m) (u v : ℕ) (p : ContractPasses m
   -- a common neighbour is an apex
   apex : (x : ℕ) → ((z : ℕ) × Has u x z) ⊎ ((z : ℕ) × Has u z x) → ((z : ℕ) × Has v x z) ⊎ ((z : ℕ) × Has v z x) → Has u v x ⊎ Has v u x
   apex x a b =
-      elim (or-holds (is_apex x (side_of m.tris u v)) (is_apex x (side_of m.tris v u)) (p.link x (of_u a) (of_v b))) [ inl k ↦ inl (let r = apex_stands m ok u v p u v x k in record { owner = r.0; stands = r.1 }) | inr k ↦ inr (let r = apex_stands m ok u v p v u x k in record { owner = r.0; stands = r.1 }) ]
+      elim (or_cases (is_apex x (side_of m.tris u v)) (is_apex x (side_of m.tris v u)) (p.link x (of_u a) (of_v b))) [ inl k ↦ inl (let r = apex_stands m ok u v p u v x k in record { owner = r.0; stands = r.1 }) | inr k ↦ inr (let r = apex_stands m ok u v p v u x k in record { owner = r.0; stands = r.1 }) ]
     where
       of_u : ((z : ℕ) × Has u x z) ⊎ ((z : ℕ) × Has u z x) → Contains (neighbours (spokes_of m u)) x
       of_u (inl k) = let s = spokes-has m ok u x k.0 k.1.owner k.1.stands in subst (λ w. Contains (neighbours (spokes_of m u)) w) s.2 (right_is_neighbour (spokes_of m u) s.0 s.1)

@@ -7,7 +7,8 @@ use Rattle.std.proofs.lemmas.Bool.Decides.{nat_tests}
 use Rattle.std.proofs.lemmas.List.Elements.{Contains-append_cases, Contains-append_left, Contains-append_right}
 use Rattle.pf_model.specs.declared.Tri.{Tri}
 use Rattle.pf_model.specs.Rising.{AreDifferent, insert_all_by, IsRising}
-use Rattle.pf_model.specs.Mesh.{Undivided, DirectedEdge, directed_edges_in, directed_edges_of, reversed, Side, tri_lt, has_edge, side_of}
+use Rattle.pf_model.specs.declared.Side.{Side}
+use Rattle.pf_model.specs.Mesh.{Undivided, DirectedEdge, directed_edges_in, directed_edges_of, reversed, tri_lt, has_edge, side_of}
 use Rattle.pf_model.specs.Conforming.{IsConforming, HasEdgesOnce}
 use Rattle.pf_model.specs.Sums.{total, directed_edge_lt, is_open}
 use Rattle.pf_model.proofs.Members.{nowhere, here, there, cases, filter-in, filter-out}

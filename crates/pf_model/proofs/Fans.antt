@@ -9,6 +9,7 @@ use Rattle.pf_model.specs.declared.Spoke.{Spoke}
 use Rattle.pf_model.specs.Stars.{left_after, without_right, run_leaves, run_start, is_one_fan, path_start, path_end}
 use Rattle.pf_model.proofs.Members.{nowhere, here, there, cases, filter-in, filter-out}
 use Rattle.std.proofs.lemmas.Int.{ints}
+use Rattle.std.proofs.lemmas.Bool.{cases_eq, eqb-false, eqb-true}
 use Rattle.pf_model.specs.Sums.{total}
 use Rattle.pf_model.proofs.Shares.{share, one_less, different-without}
 use Rattle.pf_model.proofs.Kept.{any-from, any-means}
@@ -19,12 +20,6 @@ IsRight ss w = (s : Spoke) × Contains ss s × (s.right ≡ w)
 abbrev pub IsLeft : List Spoke → ℕ → Type 0
 IsLeft ss w = (s : Spoke) × Contains ss s × (s.left ≡ w)
 
-eq_holds : (a b : ℕ) → (a == b) ≡ true → a ≡ b
-eq_holds a b h = grind (arith, nat_tests)
-
-eq_fails : (a b : ℕ) → (a == b) ≡ false → a ≢ b
-eq_fails a b h = grind (arith, nat_tests)
-
 eq_itself : (a : ℕ) → (a == a) ≡ true
 eq_itself a = grind (arith, nat_tests)
 
@@ -34,9 +29,6 @@ not_eq a b h = grind (arith, nat_tests)
 not_eq_means : (a b : ℕ) → not (a == b) ≡ true → a ≢ b
 not_eq_means a b h = grind (arith, nat_tests)
 
-eq_or_not : (a b : ℕ) → (a ≡ b) ⊎ (a ≢ b)
-eq_or_not a b = grind arith
-
 pub left_after-some : (ss : List Spoke) (r l : ℕ) → left_after ss r ≡ Some l → (s : Spoke) × Contains ss s × (s.right ≡ r) × (s.left ≡ l)
 left_after-some [] r l h = absurd (let e : None ≡ Some l = h in cc)
 left_after-some (s ∷ ss) r l h = go (s.right == r) refl h (λ e. left_after-some ss r l e)
@@ -45,7 +37,7 @@ left_after-some (s ∷ ss) r l h = go (s.right == r) refl h (λ e. left_after-so
     some_same e = cc
 
     go : (b : Bool) → (s.right == r) ≡ b → cond b (Some s.left) (left_after ss r) ≡ Some l → (left_after ss r ≡ Some l → (x : Spoke) × Contains ss x × (x.right ≡ r) × (x.left ≡ l)) → (x : Spoke) × Contains (s ∷ ss) x × (x.right ≡ r) × (x.left ≡ l)
-    go true e f ih = (s, here s ss, eq_holds s.right r e, some_same f)
+    go true e f ih = (s, here s ss, eqb-true s.right r e, some_same f)
     go false e f ih = let x = ih f in (x.0, there x.0 s ss x.1, x.2, x.3)
 
 pub left_after-none : (ss : List Spoke) (r : ℕ) → left_after ss r ≡ None → IsRight ss r → ⊥
@@ -54,7 +46,7 @@ left_after-none (s ∷ ss) r h i = go (s.right == r) refl h (cases i.0 s ss i.1)
   where
     go : (b : Bool) → (s.right == r) ≡ b → cond b (Some s.left) (left_after ss r) ≡ None → (i.0 ≡ s) ⊎ Contains ss i.0 → (left_after ss r ≡ None → IsRight ss r → ⊥) → ⊥
     go true e f c ih = let k : Some s.left ≡ None = f in absurd (cc)
-    go false e f (inl x) ih = eq_fails s.right r e (ap (λ w. w.right) (sym x) ∙ i.2)
+    go false e f (inl x) ih = eqb-false s.right r e (ap (λ w. w.right) (sym x) ∙ i.2)
     go false e f (inr x) ih = ih f (i.0, x, i.2)
 
 -- the lefts are the rights but r, and e
@@ -106,13 +98,13 @@ run_is (suc most) ss r o some h = go (left_after ss r) refl h (λ l more f. run_
           last = ih.last;
           last_left = is_more r ss ih.last ih.last_left;
           lefts = λ w h'. elim (split h'.0 h'.1) [ inl x ↦ inl (let e2 : l ≡ w = sym first.3 ∙ (sym x ∙ h'.2) in subst (λ k. IsRight ss k × (k ≢ r)) e2 (right_more r ss l (found (left_after (without_right r ss) l) refl))) | inr y ↦ left_of_rest w (ih.lefts w (h'.0, y, h'.2)) ];
-          rights = λ w h' n. right_of_rest w (right_less r ss w h' n) (eq_or_not w l);
-          ends = λ i. elim (eq_or_not ih.last r) [ inl e ↦ e | inr n ↦ absurd (no_ring (ih.ends (right_less r ss ih.last i n))) ];
+          rights = λ w h' n. right_of_rest w (right_less r ss w h' n) (cases_eq w l);
+          ends = λ i. elim (cases_eq ih.last r) [ inl e ↦ e | inr n ↦ absurd (no_ring (ih.ends (right_less r ss ih.last i n))) ];
           sum = λ h'. (let a = one_less h' ss r l o.different at' in let b = ih.sum h' in sums (total (share h') ss) (h' r) (h' l) (total (share h') (without_right r ss)) (h' ih.last) a b);
         }
       where
         split : (s : Spoke) → Contains ss s → (s.left ≡ first.0.left) ⊎ Contains (without_right r ss) s
-        split s hs = elim (eq_or_not s.right r) [ inl x ↦ inl (o.one_left s first.0 hs first.1 (x ∙ sym first.2)) | inr x ↦ inr (filter-in (λ t. not (t.right == r)) s ss hs (not_eq s.right r x)) ]
+        split s hs = elim (cases_eq s.right r) [ inl x ↦ inl (o.one_left s first.0 hs first.1 (x ∙ sym first.2)) | inr x ↦ inr (filter-in (λ t. not (t.right == r)) s ss hs (not_eq s.right r x)) ]
 
         no_ring : ih.last ≡ l → ⊥
         no_ring e =
@@ -149,7 +141,7 @@ run_is (suc most) ss r o some h = go (left_after ss r) refl h (λ l more f. run_
           last_left = (first.0, first.1, first.3);
           lefts = λ w h'. elim (split h'.0 h'.1) [ inl x ↦ inr (sym h'.2 ∙ (x ∙ first.3)) | inr y ↦ absurd (nowhere h'.0 (subst (λ k. Contains k h'.0) none y)) ];
           rights = λ w h' n. absurd (let y = right_less r ss w h' n in nowhere y.0 (subst (λ k. Contains k y.0) none y.1));
-          ends = λ i. elim (eq_or_not l r) [ inl e ↦ e | inr n ↦ absurd (let y = right_less r ss l i n in nowhere y.0 (subst (λ k. Contains k y.0) none y.1)) ];
+          ends = λ i. elim (cases_eq l r) [ inl e ↦ e | inr n ↦ absurd (let y = right_less r ss l i n in nowhere y.0 (subst (λ k. Contains k y.0) none y.1)) ];
           sum = λ h'. (let a = one_less h' ss r l o.different at' in let b : total (share h') (without_right r ss) ≡ pos 0 = ap (total (share h')) none in sums (total (share h') ss) (h' r) (h' l) (total (share h') (without_right r ss)) a b);
         }
       where
@@ -157,7 +149,7 @@ run_is (suc most) ss r o some h = go (left_after ss r) refl h (λ l more f. run_
         sums x y z w a b = omega (arith, ints, a, b)
 
         split : (s : Spoke) → Contains ss s → (s.left ≡ first.0.left) ⊎ Contains (without_right r ss) s
-        split s hs = elim (eq_or_not s.right r) [ inl x ↦ inl (o.one_left s first.0 hs first.1 (x ∙ sym first.2)) | inr x ↦ inr (filter-in (λ t. not (t.right == r)) s ss hs (not_eq s.right r x)) ]
+        split s hs = elim (cases_eq s.right r) [ inl x ↦ inl (o.one_left s first.0 hs first.1 (x ∙ sym first.2)) | inr x ↦ inr (filter-in (λ t. not (t.right == r)) s ss hs (not_eq s.right r x)) ]
 
     go : (a : Option ℕ) → left_after ss r ≡ a → (let left : List Spoke = elim a [ None ↦ ss | Some next ↦ run_leaves most (without_right r ss) next ] in left ≡ []) → ((l : ℕ) → (s : Spoke) × Contains (without_right r ss) s → run_leaves most (without_right r ss) l ≡ [] → IsRun (without_right r ss) l) → IsRun ss r
     go None e f ih = absurd (nowhere some.0 (subst (λ l. Contains l some.0) f some.1))
@@ -165,7 +157,7 @@ run_is (suc most) ss r o some h = go (left_after ss r) refl h (λ l more f. run_
 
 pub empty_by_length : (ss : List Spoke) → (length ss == 0) ≡ true → ss ≡ []
 empty_by_length [] h = refl
-empty_by_length (s ∷ ss) h = absurd (let e : suc (length ss) ≡ 0 = eq_holds (suc (length ss)) 0 h in omega arith)
+empty_by_length (s ∷ ss) h = absurd (let e : suc (length ss) ≡ 0 = eqb-true (suc (length ss)) 0 h in omega arith)
 
 pub one_fan-run : (ss : List Spoke) → IsSimple ss → ((s : Spoke) × Contains ss s) → is_one_fan ss ≡ true → IsRun ss (run_start ss)
 one_fan-run ss o some h = run_is (length ss) ss (run_start ss) o some (empty_by_length (run_leaves (length ss) ss (run_start ss)) h)
@@ -187,7 +179,7 @@ path_start-none [] all h w i = absurd (nowhere i.0 i.1)
 path_start-none (s ∷ ss) all h w i = go (list_any (λ r. r.left == s.right) all) refl h (cases i.0 s ss i.1) (λ e k. path_start-none ss all e w k)
   where
     go : (b : Bool) → list_any (λ r. r.left == s.right) all ≡ b → cond b (path_start ss all) (Some s.right) ≡ None → (i.0 ≡ s) ⊎ Contains ss i.0 → (path_start ss all ≡ None → IsRight ss w → IsLeft all w) → IsLeft all w
-    go true e f (inl x) ih = let k = any-means (λ r. r.left == s.right) all e in (k.0, k.1, eq_holds k.0.left s.right k.2 ∙ (ap (λ t. t.right) (sym x) ∙ i.2))
+    go true e f (inl x) ih = let k = any-means (λ r. r.left == s.right) all e in (k.0, k.1, eqb-true k.0.left s.right k.2 ∙ (ap (λ t. t.right) (sym x) ∙ i.2))
     go true e f (inr x) ih = ih f (i.0, x, i.2)
     go false e f c ih = absurd (let z : Some s.right ≡ None = f in cc)
 
@@ -207,6 +199,6 @@ path_end-none [] all h w i = absurd (nowhere i.0 i.1)
 path_end-none (s ∷ ss) all h w i = go (list_any (λ r. r.right == s.left) all) refl h (cases i.0 s ss i.1) (λ e k. path_end-none ss all e w k)
   where
     go : (b : Bool) → list_any (λ r. r.right == s.left) all ≡ b → cond b (path_end ss all) (Some s.left) ≡ None → (i.0 ≡ s) ⊎ Contains ss i.0 → (path_end ss all ≡ None → IsLeft ss w → IsRight all w) → IsRight all w
-    go true e f (inl x) ih = let k = any-means (λ r. r.right == s.left) all e in (k.0, k.1, eq_holds k.0.right s.left k.2 ∙ (ap (λ t. t.left) (sym x) ∙ i.2))
+    go true e f (inl x) ih = let k = any-means (λ r. r.right == s.left) all e in (k.0, k.1, eqb-true k.0.right s.left k.2 ∙ (ap (λ t. t.left) (sym x) ∙ i.2))
     go true e f (inr x) ih = ih f (i.0, x, i.2)
     go false e f c ih = absurd (let z : Some s.left ≡ None = f in cc)

@@ -5,7 +5,8 @@ use Rattle.std.specs.Prelude.{Contains, filter, Some, None, min, max, ℤ, ◌+�
 use Rattle.std.proofs.lemmas.Int.{ints}
 use Rattle.pf_model.specs.declared.Tri.{Tri}
 use Rattle.pf_model.specs.declared.Op.TheVariants.{Flip}
-use Rattle.pf_model.specs.Mesh.{Undivided, Side, tri_of, tri_lt, has_edge, side_of, turn_at, place_of}
+use Rattle.pf_model.specs.declared.Side.{Side}
+use Rattle.pf_model.specs.Mesh.{Undivided, tri_of, tri_lt, has_edge, side_of, turn_at, place_of}
 use Rattle.pf_model.specs.Conforming.{IsConforming}
 use Rattle.pf_model.specs.Applied.{applied, replaced, is_at_edge, flip_added, flipped}
 use Rattle.pf_model.specs.Conditions.{first_failing}

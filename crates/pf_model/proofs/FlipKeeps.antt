@@ -1,26 +1,26 @@
 -- A flip that passes keeps a mesh conforming, in all its parts.
 -- Assumes `IsConforming m` and that `first_failing` is None.
-use Rattle.std.proofs.Common.{◌≡◌, ◌≢◌, ℕ, ◌<◌, List, [], ◌∷◌, refl, sym, ◌∙◌, subst, Bool, true, false, cond, ◌⊎◌, inl, inr, arith, ◌&&◌, ◌||◌}
+use Rattle.std.proofs.Common.{◌≡◌, ◌≢◌, ℕ, ◌<◌, List, [], ◌∷◌, refl, sym, ◌∙◌, subst, Bool, true, false, cond, ◌⊎◌, inl, inr, arith, ◌&&◌}
 use Rattle.std.specs.Prelude.{Contains, Some, None, min, max, pos, ◌<ℤ◌, nat_lt}
 use Rattle.std.specs.List.{list_any}
 use Rattle.std.proofs.lemmas.Int.{ints}
+use Rattle.std.proofs.lemmas.Bool.{or_cases}
+use Rattle.std.proofs.Math.Bool.{or-true}
 use Rattle.pf_model.specs.declared.Tri.{Tri}
 use Rattle.pf_model.specs.declared.Op.TheVariants.{Flip}
-use Rattle.pf_model.specs.Mesh.{Undivided, Side, tri_of, tri_lt, has_edge, has_corner, side_of, turn_at, place_of}
+use Rattle.pf_model.specs.declared.Side.{Side}
+use Rattle.pf_model.specs.Mesh.{Undivided, tri_of, tri_lt, has_edge, has_corner, side_of, turn_at, place_of}
 use Rattle.pf_model.specs.Conforming.{IsConforming, IsProper, IsLive, HasEdgesOnce}
 use Rattle.pf_model.specs.Applied.{applied, replaced, is_at_edge, flip_added, flipped}
 use Rattle.pf_model.specs.Conditions.{first_failing}
 use Rattle.pf_model.proofs.Members.{nowhere, here, there, cases, each}
 use Rattle.pf_model.proofs.RisingLemmas.{AreApart}
 use Rattle.pf_model.proofs.Patch.{replaced-cases, replaced-kept, replaced-new}
-use Rattle.pf_model.proofs.Triangles.{IsLeastFirst, IsEdge, tri_of-edges, tri_of-edge_one, tri_of-edge_two, tri_of-edge_three, tri_of-corners, tri_of-corner, tri_of-owner, tri_of-least_first, tri_lt-apart, side_of-none, has_corner-means}
+use Rattle.pf_model.proofs.Triangles.{IsEdge, tri_of-edges, tri_of-edge_one, tri_of-edge_two, tri_of-edge_three, tri_of-corners, tri_of-corner, tri_of-owner, tri_of-least_first, tri_lt-apart, side_of-none, has_corner-means, least_first}
 use Rattle.pf_model.proofs.Turns.{AreDistinct, distinct_from_turn, turn_at-tri_of}
 use Rattle.pf_geom.proofs.Orientations.{orient_of-swapped}
 use Rattle.pf_model.proofs.ReadClauses.{FlipPasses, flip_passes}
 use Rattle.pf_model.proofs.Kept.{Meets, any-from, any-means, replaced-edges_once, replaced-rising, side_of-stands, has_edge-first}
-
-least_first : (m : Undivided) → IsConforming m → (t : Tri) → Contains m.tris t → IsLeastFirst t
-least_first m ok t h = let p = ok.proper t h in record { least = p.least; least' = p.least'; apart = p.apart }
 
 -- a proper triangle from its three corners, in any turn
 pub proper_tri : (m : Undivided) (p q z o : ℕ) → IsLive m p → IsLive m q → IsLive m z → AreDistinct p q z → IsProper m (tri_of p q z o)
@@ -103,12 +103,8 @@ module _ (m : Undivided) (ok : IsConforming m) (lo hi c d o1 o2 : ℕ) (f : Flip
   pub removed_one : is_at_edge lo hi (tri_of lo hi c o1) ≡ true
   removed_one = rw (tri_of-edge_one lo hi c o1) refl
 
-  or-true' : (b : Bool) → (b || true) ≡ true
-  or-true' true = refl
-  or-true' false = refl
-
   pub removed_two : is_at_edge lo hi (tri_of hi lo d o2) ≡ true
-  removed_two = rw (tri_of-edge_one hi lo d o2) (or-true' _)
+  removed_two = rw (tri_of-edge_one hi lo d o2) (or-true _)
 
   by_one : (t : Tri) (p q : ℕ) → Contains m.tris t → has_edge p q t ≡ true → has_edge p q (tri_of lo hi c o1) ≡ true → is_at_edge lo hi t ≡ true
   by_one t p q h e k = subst (λ w. is_at_edge lo hi w ≡ true) (ok.edges_once (tri_of lo hi c o1) t p q f.one h k e) removed_one
@@ -217,11 +213,7 @@ module _ (m : Undivided) (ok : IsConforming m) (lo hi c d o1 o2 : ℕ) (f : Flip
 
   -- a triangle that goes is one of the two
   pub removed_is : (t : Tri) → Contains m.tris t → is_at_edge lo hi t ≡ true → (t ≡ tri_of lo hi c o1) ⊎ (t ≡ tri_of hi lo d o2)
-  removed_is t h e = elim (or-holds (has_edge lo hi t) (has_edge hi lo t) e) [ inl x ↦ inl (ok.edges_once t (tri_of lo hi c o1) lo hi h f.one x (tri_of-edge_one lo hi c o1)) | inr x ↦ inr (ok.edges_once t (tri_of hi lo d o2) hi lo h f.two x (tri_of-edge_one hi lo d o2)) ]
-    where
-      or-holds : (a b : Bool) → (a || b) ≡ true → (a ≡ true) ⊎ (b ≡ true)
-      or-holds true b k = inl refl
-      or-holds false b k = inr k
+  removed_is t h e = elim (or_cases (has_edge lo hi t) (has_edge hi lo t) e) [ inl x ↦ inl (ok.edges_once t (tri_of lo hi c o1) lo hi h f.one x (tri_of-edge_one lo hi c o1)) | inr x ↦ inr (ok.edges_once t (tri_of hi lo d o2) hi lo h f.two x (tri_of-edge_one hi lo d o2)) ]
 
   used_after : (n : ℕ) → IsLive after n → list_any (has_corner n) after.tris ≡ true
   used_after n live = go (any-means (has_corner n) m.tris (ok.used n live))

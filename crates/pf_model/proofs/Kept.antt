@@ -4,9 +4,11 @@ use Rattle.std.proofs.Common.{◌≡◌, ℕ, List, [], ◌∷◌, refl, sym, �
 use Rattle.std.specs.Prelude.{Contains, filter, not, Option, Some, None}
 use Rattle.std.specs.List.{list_any}
 use Rattle.std.proofs.lemmas.Bool.Decides.{nat_tests}
+use Rattle.std.proofs.lemmas.Bool.{cases_Bool}
 use Rattle.pf_model.specs.declared.Tri.{Tri}
 use Rattle.pf_model.specs.Rising.{IsRising}
-use Rattle.pf_model.specs.Mesh.{Side, tri_of, tri_lt, has_edge, apex_in, side_of}
+use Rattle.pf_model.specs.declared.Side.{Side}
+use Rattle.pf_model.specs.Mesh.{tri_of, tri_lt, has_edge, apex_in, side_of}
 use Rattle.pf_model.specs.Conforming.{HasEdgesOnce}
 use Rattle.pf_model.specs.Applied.{replaced}
 use Rattle.pf_model.proofs.Members.{nowhere, here, there, cases, filter-out}
@@ -47,17 +49,13 @@ replaced-edges_once removed added ts old new meets s t p q hs ht ks kt =
 pub has_edge-first : (t : Tri) → has_edge t.a t.b t ≡ true
 has_edge-first t = grind (arith, nat_tests)
 
-bool_cases : (b : Bool) → (b ≡ true) ⊎ (b ≡ false)
-bool_cases true = inl refl
-bool_cases false = inr refl
-
 pub replaced-rising : (removed : Tri → Bool) (added ts : List Tri) → IsRising tri_lt ts → AreApart tri_lt added → Meets removed added ts → IsRising tri_lt (replaced removed added ts)
 replaced-rising removed added ts up apart meets = rising-insert_all_by tri_lt tri_lt-order added (filter (λ t. not (removed t)) ts) apart others (rising-filter tri_lt (λ t. not (removed t)) ts up)
   where
     others : (s : Tri) → Contains added s → IsApart tri_lt s (filter (λ t. not (removed t)) ts)
     others s hs z hz =
         let out : Contains ts z × (not (removed z) ≡ true) = filter-out (λ t. not (removed t)) z ts hz in
-        elim (bool_cases (has_edge s.a s.b z)) [
+        elim (cases_Bool (has_edge s.a s.b z)) [
           | inl e ↦ absurd (let g : removed z ≡ true = meets s z s.a s.b hs out.0 (has_edge-first s) e in let k : false ≡ true = subst (λ b. not b ≡ true) g out.1 in cc)
           | inr e ↦ tri_lt-apart s z e
         ]

@@ -11,6 +11,7 @@ pub mod ReadClauses
 pub mod Kept
 pub mod FlipKeeps
 pub mod Totals
+pub mod Sorted
 pub mod EdgeSum
 pub mod FlipArea
 pub mod Replacement
@@ -26,6 +27,7 @@ pub mod ContractKeeps
 pub mod ContractArea
 pub mod ContractLinks
 pub mod ReplayKeeps
+pub mod Replays
 pub mod Boundary
 pub mod Walks
 pub mod BuiltConforms
@@ -35,3 +37,4 @@ pub mod Rows
 pub mod OperationRows
 pub mod StarRows
 pub mod RestRows
+pub mod Exchange

@@ -4,6 +4,7 @@ use Rattle.std.proofs.Common.{◌≡◌, ◌≢◌, ℕ, zero, suc, ◌≤◌, L
 use Rattle.std.specs.Prelude.{Contains, not, Option, Some, None, ◌==◌, map}
 use Rattle.std.proofs.lemmas.Bool.Decides.{nat_tests}
 use Rattle.std.proofs.lemmas.List.Elements.{Contains-append_cases, Contains-append_left, Contains-append_right}
+use Rattle.std.proofs.lemmas.Bool.{cases_eq}
 use Rattle.pf_model.specs.declared.Spoke.{Spoke}
 use Rattle.pf_model.specs.Rising.{AreDifferent}
 use Rattle.pf_model.specs.Stars.{left_after, without_right, run_leaves, run_start, is_one_fan, path_start}
@@ -98,11 +99,8 @@ passed_more ss r l o s h er el p =
       beside = (er, subst (λ w. AreBeside w p.order p.last) (sym el) p.beside);
     }
   where
-    eq_or_not : (a b : ℕ) → (a ≡ b) ⊎ (a ≢ b)
-    eq_or_not a b = grind arith
-
     all : (t : Spoke) → Contains ss t → Contains (s ∷ p.order) t
-    all t c = elim (eq_or_not t.right r) [ inl e ↦ subst (λ w. Contains (w ∷ p.order) t) (same_spoke ss t s o.different c h (e ∙ sym er)) (here t p.order) | inr n ↦ there t s p.order (p.orders.all t (filter-in (λ w. not (w.right == r)) t ss c (not_eq t.right r n))) ]
+    all t c = elim (cases_eq t.right r) [ inl e ↦ subst (λ w. Contains (w ∷ p.order) t) (same_spoke ss t s o.different c h (e ∙ sym er)) (here t p.order) | inr n ↦ there t s p.order (p.orders.all t (filter-in (λ w. not (w.right == r)) t ss c (not_eq t.right r n))) ]
 
     only : (t : Spoke) → Contains (s ∷ p.order) t → Contains ss t
     only t c = elim (cases t s p.order c) [ inl e ↦ subst (λ w. Contains ss w) (sym e) h | inr k ↦ (filter-out (λ w. not (w.right == r)) t ss (p.orders.only t k)).0 ]
@@ -260,12 +258,9 @@ pub beside_fan : (order ss : List Spoke) (r last : ℕ) → IsSimple ss → IsOr
 beside_fan order ss r last o h b =
     one_fan-from ss o record { order = order; orders = h; first = r; last = last; beside = b; shape = elim (left_or_not ss r) [ inl l ↦ inl (cycle_closes order ss r last o h b l.0 l.1 l.2) | inr n ↦ inr n ] }
   where
-    eq_or_not : (a b : ℕ) → (a ≡ b) ⊎ (a ≢ b)
-    eq_or_not a b = grind arith
-
     left_or_not : (xs : List Spoke) (n : ℕ) → IsLeft xs n ⊎ ((s : Spoke) → Contains xs s → s.left ≢ n)
     left_or_not [] n = inr (λ s c e. nowhere s c)
-    left_or_not (x ∷ xs) n = elim (eq_or_not x.left n) [
+    left_or_not (x ∷ xs) n = elim (cases_eq x.left n) [
       | inl e ↦ inl (x, here x xs, e)
       | inr d ↦ elim (left_or_not xs n) [ inl l ↦ inl (l.0, there l.0 x xs l.1, l.2) | inr f ↦ inr (λ s c. elim (cases s x xs c) [ inl q ↦ (λ e. d (ap (λ w. w.left) (sym q) ∙ e)) | inr k ↦ f s k ]) ]
     ]

@@ -1,16 +1,17 @@
 -- Reading conditions: where no clause comes, each test was false. A flip, and a bisection, that passes, as one record each.
 use Rattle.std.proofs.Common.{◌≡◌, ◌≢◌, ℕ, ◌≤◌, List, ◌∷◌, refl, subst, Bool, true, false, ◌⊎◌, inl, inr, arith, ◌&&◌, ◌||◌}
 use Rattle.std.specs.Prelude.{ℤ, pos, ◌<ℤ◌, ◌*ℤ◌, int_lt, not, Option, Some, None, is_some, min, max, ◌==◌}
-use Rattle.std.proofs.lemmas.Bool.Decides.{nat_tests}
 use Rattle.pf_model.specs.declared.Tri.{Tri}
 use Rattle.pf_model.specs.declared.Cond.TheVariants.{NoEdge, Foreign, OnBoundary, NotConvex, NotShorter, EdgeThere, TooShort, OddMidpoint}
 use Rattle.std.proofs.lemmas.Int.{ints}
+use Rattle.std.proofs.lemmas.Bool.{eqb-false}
 use Rattle.pf_model.specs.declared.Op.TheVariants.{Flip, Bisect}
 use Rattle.pf_geom.specs.declared.Point.{Point}
 use Rattle.pf_geom.specs.Plane.{middle_of}
-use Rattle.pf_model.specs.Mesh.{Undivided, Side, is_edge, side_of, place_of, turn_at, len2_at}
+use Rattle.pf_model.specs.declared.Side.{Side}
+use Rattle.pf_model.specs.Mesh.{Undivided, is_edge, side_of, place_of, turn_at, len2_at}
 use Rattle.pf_model.specs.Clauses.{when, first_of}
-use Rattle.pf_model.specs.Conditions.{first_failing, apex_or, is_positive, flip_clauses, is_owned, not_longest}
+use Rattle.pf_model.specs.Conditions.{first_failing, is_positive, flip_clauses_at, is_owned, not_longest}
 use Rattle.pf_model.specs.Lengths.{min2_of}
 
 pub when-none : {X : Type 0} (b : Bool) (c : X) → when b c ≡ None → b ≡ false
@@ -57,10 +58,9 @@ pub record FlipPasses (m : Undivided) (lo hi : ℕ) (l r : Side) : Type 0 where
   pub no_edge : side_of m.tris l.apex r.apex ≡ None
   pub no_edge_back : side_of m.tris r.apex l.apex ≡ None
 
-flip_passes_at : (m : Undivided) (lo hi : ℕ) (l r : Side) → side_of m.tris lo hi ≡ Some l → side_of m.tris hi lo ≡ Some r → first_of (flip_clauses m lo hi (apex_or (Some l)) (apex_or (Some r))) ≡ None → FlipPasses m lo hi l r
+flip_passes_at : (m : Undivided) (lo hi : ℕ) (l r : Side) → side_of m.tris lo hi ≡ Some l → side_of m.tris hi lo ≡ Some r → first_of (flip_clauses_at m lo hi (Some l) (Some r)) ≡ None → FlipPasses m lo hi l r
 flip_passes_at m lo hi l r el er h =
-    let one = first_of-none (when (not (is_some (side_of m.tris lo hi) && is_some (side_of m.tris hi lo))) OnBoundary) _ h in
-    let two = first_of-none (when (not (is_positive (turn_at m lo r.apex l.apex) && is_positive (turn_at m hi l.apex r.apex))) NotConvex) _ one.1 in
+    let two = first_of-none (when (not (is_positive (turn_at m lo r.apex l.apex) && is_positive (turn_at m hi l.apex r.apex))) NotConvex) _ h in
     let three = first_of-none (when (not (int_lt (len2_at m l.apex r.apex) (len2_at m lo hi))) NotShorter) _ two.1 in
     let four = first_of-none (when (is_edge m.tris l.apex r.apex) (EdgeThere l.apex r.apex)) _ three.1 in
     let convex = and-true _ _ (not-false _ (when-none _ _ two.0)) in
@@ -75,9 +75,6 @@ flip_passes_at m lo hi l r el er h =
       no_edge_back = is_some-none _ apart.1;
     }
 
-apart_by_test : (a b : ℕ) → (a == b) ≡ false → a ≢ b
-apart_by_test a b h = grind (arith, nat_tests)
-
 -- the sides of a flip that passes
 pub flip_passes : (m : Undivided) (chunk a b : ℕ) → first_failing m chunk (Flip a b) ≡ None → (a ≢ b) × ((l r : Side) × FlipPasses m (min a b) (max a b) l r)
 flip_passes m chunk a b h =
@@ -90,9 +87,9 @@ flip_passes m chunk a b h =
     let both = and-true _ _ (not-false _ (when-none _ _ three.0)) in
     let l = is_some-holds _ both.0 in
     let r = is_some-holds _ both.1 in
-    let t1 : first_of (flip_clauses m lo hi (apex_or (Some l.0)) (apex_or (side_of m.tris hi lo))) ≡ None = subst (λ o. first_of (flip_clauses m lo hi (apex_or o) (apex_or (side_of m.tris hi lo))) ≡ None) l.1 two.1 in
-    let t2 : first_of (flip_clauses m lo hi (apex_or (Some l.0)) (apex_or (Some r.0))) ≡ None = subst (λ o. first_of (flip_clauses m lo hi (apex_or (Some l.0)) (apex_or o)) ≡ None) r.1 t1 in
-    (apart_by_test a b differ.0, (l.0, r.0, flip_passes_at m lo hi l.0 r.0 l.1 r.1 t2))
+    let t1 : first_of (flip_clauses_at m lo hi (Some l.0) (side_of m.tris hi lo)) ≡ None = subst (λ o. first_of (flip_clauses_at m lo hi o (side_of m.tris hi lo)) ≡ None) l.1 two.1 in
+    let t2 : first_of (flip_clauses_at m lo hi (Some l.0) (Some r.0)) ≡ None = subst (λ o. first_of (flip_clauses_at m lo hi (Some l.0) o) ≡ None) r.1 t1 in
+    (eqb-false a b differ.0, (l.0, r.0, flip_passes_at m lo hi l.0 r.0 l.1 r.1 t2))
 
 -- a bisection of the edge a, b passes, whose middle is p. Its other conditions speak of lengths alone
 pub record BisectPasses (m : Undivided) (lo hi : ℕ) (p : Point) : Type 0 where

@@ -3,6 +3,7 @@
 use Rattle.std.proofs.Common.{◌≡◌, ◌≢◌, ℕ, suc, ◌+◌, ◌<◌, List, [], ◌∷◌, ◌++◌, refl, sym, ◌∙◌, ap, subst, true, false, ◌⊎◌, inl, inr, arith}
 use Rattle.std.specs.Prelude.{Option, Some, None, is_some, min, max}
 use Rattle.std.proofs.lemmas.Bool.Decides.{nat_tests}
+use Rattle.std.proofs.lemmas.Bool.{cases_eq}
 use Rattle.pf_geom.specs.declared.Point.{Point}
 use Rattle.pf_geom.specs.Plane.{middle_of}
 use Rattle.pf_model.specs.declared.Site.{Site}
@@ -46,11 +47,8 @@ fresh-push ss n o f k l = go (point_of ss k) refl
     go None e = let a = only o (ap is_some (sym (point_of-past ss (new_site n o) k e)) ∙ l) in omega arith
 
 fresh-less : (u : ℕ) (ss : List Site) (n : ℕ) → AreBelow ss n → AreBelow (without_name u ss) (suc n)
-fresh-less u ss n f k l = go (eq_or_not k u)
+fresh-less u ss n f k l = go (cases_eq k u)
   where
-    eq_or_not : (a b : ℕ) → (a ≡ b) ⊎ (a ≢ b)
-    eq_or_not a b = grind arith
-
     go : (k ≡ u) ⊎ (k ≢ u) → k < suc n
     go (inl e) = absurd (let a : is_some (point_of (without_name u ss) u) ≡ true = subst (λ w. is_some (point_of (without_name u ss) w) ≡ true) e l in let z : false ≡ true = sym (ap is_some (point_of-gone u ss)) ∙ a in cc)
     go (inr n') = let a = f k (sym (ap is_some (point_of-without u k ss n')) ∙ l) in omega arith

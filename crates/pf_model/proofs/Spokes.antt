@@ -4,6 +4,7 @@ use Rattle.std.proofs.Common.{◌≡◌, ◌≢◌, ℕ, List, [], ◌∷◌, re
 use Rattle.std.specs.Prelude.{Contains, Option, Some, None, filter_map, ◌==◌, map}
 use Rattle.std.specs.List.{cons_option}
 use Rattle.std.proofs.lemmas.Bool.Decides.{nat_tests}
+use Rattle.std.proofs.lemmas.Bool.{eqb-true}
 use Rattle.pf_model.specs.declared.Tri.{Tri}
 use Rattle.pf_model.specs.declared.Spoke.{Spoke}
 use Rattle.pf_model.specs.Rising.{AreDifferent, insert_by, insert_all_by, IsRising}
@@ -13,7 +14,7 @@ use Rattle.pf_model.specs.Stars.{spoke_of, spoke_lt, spokes_of}
 use Rattle.pf_model.proofs.Members.{nowhere, here, there, cases, insert_by-cases, insert_all_by-new, insert_all_by-cases}
 use Rattle.pf_model.proofs.RisingLemmas.{rising-head, rising-tail}
 use Rattle.pf_model.proofs.Totals.{map-in, map-means}
-use Rattle.pf_model.proofs.Triangles.{IsLeastFirst, IsEdge, tri_of-edges, tri_of-edge_one, tri_of-edge_three, tri_of-owner, tri_of-corner, tri_lt-order}
+use Rattle.pf_model.proofs.Triangles.{IsLeastFirst, IsEdge, tri_of-edges, tri_of-edge_one, tri_of-edge_three, tri_of-owner, tri_of-corner, tri_lt-order, least_first}
 use Rattle.pf_model.proofs.Turns.{AreDistinct}
 use Rattle.pf_model.proofs.Fans.{IsSimple}
 use Rattle.pf_model.proofs.FlipKeeps.{corners_of}
@@ -48,9 +49,6 @@ tri_at_two t n l e = let l1 = l.least in let l2 = l.least' in let l3 = l.apart i
 tri_at_three : (t : Tri) (n : ℕ) → IsLeastFirst t → t.c ≡ n → tri_of n t.a t.b t.owner ≡ t
 tri_at_three t n l e = let l1 = l.least in let l2 = l.least' in let l3 = l.apart in grind (arith, nat_tests)
 
-eq_holds : (a b : ℕ) → (a == b) ≡ true → a ≡ b
-eq_holds a b h = grind (arith, nat_tests)
-
 some_same : {a b : Spoke} → Some a ≡ Some b → a ≡ b
 some_same q = cc
 
@@ -67,9 +65,9 @@ spoke_of-some m n t s l h = go (t.a == n) (t.b == n) (t.c == n) refl refl refl h
     s3 = record { right = t.a; right_at = place_of m t.a; left = t.b; left_at = place_of m t.b; owner = t.owner }
 
     go : (a b c : Bool) → (t.a == n) ≡ a → (t.b == n) ≡ b → (t.c == n) ≡ c → cond a (Some s1) (cond b (Some s2) (cond c (Some s3) None)) ≡ Some s → tri_of n s.right s.left s.owner ≡ t
-    go true b c ea eb ec k = subst (λ w. tri_of n w.right w.left w.owner ≡ t) (some_same k) (tri_at_one t n l (eq_holds t.a n ea))
-    go false true c ea eb ec k = subst (λ w. tri_of n w.right w.left w.owner ≡ t) (some_same k) (tri_at_two t n l (eq_holds t.b n eb))
-    go false false true ea eb ec k = subst (λ w. tri_of n w.right w.left w.owner ≡ t) (some_same k) (tri_at_three t n l (eq_holds t.c n ec))
+    go true b c ea eb ec k = subst (λ w. tri_of n w.right w.left w.owner ≡ t) (some_same k) (tri_at_one t n l (eqb-true t.a n ea))
+    go false true c ea eb ec k = subst (λ w. tri_of n w.right w.left w.owner ≡ t) (some_same k) (tri_at_two t n l (eqb-true t.b n eb))
+    go false false true ea eb ec k = subst (λ w. tri_of n w.right w.left w.owner ≡ t) (some_same k) (tri_at_three t n l (eqb-true t.c n ec))
     go false false false ea eb ec k = absurd (let z : None ≡ Some s = k in cc)
 
 pub spoke_of-there : (m : Undivided) (n : ℕ) (t : Tri) → has_corner n t ≡ true → (s : Spoke) × (spoke_of m n t ≡ Some s)
@@ -89,9 +87,6 @@ spoke_of-there m n t h = go (t.a == n) (t.b == n) (t.c == n) refl refl refl h
     go false true c ea eb ec k = (s2, refl)
     go false false true ea eb ec k = (s3, refl)
     go false false false ea eb ec k = absurd (let z : false ≡ true = k in cc)
-
-least_first : (m : Undivided) → IsConforming m → (t : Tri) → Contains m.tris t → IsLeastFirst t
-least_first m ok t h = let p = ok.proper t h in record { least = p.least; least' = p.least'; apart = p.apart }
 
 pub spokes-means : (m : Undivided) → IsConforming m → (n : ℕ) (s : Spoke) → Contains (spokes_of m n) s → Contains m.tris (tri_of n s.right s.left s.owner)
 spokes-means m ok n s h = go (insert_all_by-cases spoke_lt s (filter_map (spoke_of m n) m.tris) [] h)

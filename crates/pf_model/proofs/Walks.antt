@@ -6,7 +6,8 @@ use Rattle.std.specs.Ordering.{int_eq}
 use Rattle.std.proofs.lemmas.Bool.Decides.{nat_tests, Decides-int_eq}
 use Rattle.std.proofs.lemmas.Int.{ints}
 use Rattle.pf_model.specs.declared.Tri.{Tri}
-use Rattle.pf_model.specs.Mesh.{Undivided, Side, directed_edges_of, has_edge, apex_in, side_of, is_edge, len2_at}
+use Rattle.pf_model.specs.declared.Side.{Side}
+use Rattle.pf_model.specs.Mesh.{Undivided, directed_edges_of, has_edge, apex_in, side_of, is_edge, len2_at}
 use Rattle.pf_model.specs.Lengths.{Edge, edge_of, is_longer, longer_of, longest_of}
 use Rattle.pf_model.specs.Wishes.{IsTerminal, longer_on, either_of, next_longer, walked, terminal_of}
 use Rattle.pf_model.proofs.Counts.{count_lt, count_all}

@@ -9,7 +9,8 @@ use Rattle.pf_model.specs.declared.Op.{Op}
 use Rattle.pf_model.specs.declared.Op.TheVariants.{Flip, Bisect, Contract}
 use Rattle.pf_model.specs.declared.Entry.{Entry}
 use Rattle.pf_model.specs.Rising.{insert_all_by}
-use Rattle.pf_model.specs.Mesh.{Undivided, Side, tri_of, tri_lt, has_edge, has_corner, side_of, place_of}
+use Rattle.pf_model.specs.declared.Side.{Side}
+use Rattle.pf_model.specs.Mesh.{Undivided, tri_of, tri_lt, has_edge, has_corner, side_of, place_of}
 use Rattle.pf_model.specs.Conforming.{IsLive}
 
 -- the triangles without those that are removed, and with those that are added

@@ -1,5 +1,5 @@
 -- Laws of building and of the operations, as statements.
-use Rattle.std.specs.Prelude.{◌≡◌, ℕ, ℤ, pos, ◌+ℤ◌, List, All, length, true, None, Ok}
+use Rattle.std.specs.Prelude.{◌≡◌, ℕ, ℤ, pos, ◌+ℤ◌, List, All, length, take, true, None, Ok}
 use Rattle.pf_geom.specs.declared.Point.{Point}
 use Rattle.pf_geom.specs.Plane.{IsInRange}
 use Rattle.pf_model.specs.declared.Op.TheVariants.{Contract}
@@ -9,7 +9,7 @@ use Rattle.pf_model.specs.Conforming.{IsConforming}
 use Rattle.pf_model.specs.Build.{built}
 use Rattle.pf_model.specs.Applied.{IsFresh, applied}
 use Rattle.pf_model.specs.Conditions.{first_failing}
-use Rattle.pf_model.specs.Replay.{replayed, IsLegal}
+use Rattle.pf_model.specs.Replay.{replayed, IsLegal, HasTickets, first_refusal}
 use Rattle.pf_model.specs.Sums.{total, area2_of, cross_at, boundary_of}
 use Rattle.pf_model.specs.Stars.{spokes_of, is_one_fan}
 use Rattle.pf_model.specs.Fans.{IsOneFan}
@@ -49,6 +49,20 @@ JournalKeepsConforming = (m : Undivided) (entries : List Entry) → IsConforming
 -- and has its area
 abbrev pub JournalKeepsArea : Type 0
 JournalKeepsArea = (m : Undivided) (entries : List Entry) → IsConforming m → IsFresh m 0 → IsLegal m entries → area2_of (replayed m entries) ≡ area2_of m
+
+-- a journal whose tickets count up from 0 is legal where no entry of it is refused; and where it is legal, on a conforming mesh
+-- whose live names are below the first new one, none is
+abbrev pub LegalIsUnrefused : Type 0
+LegalIsUnrefused = (m : Undivided) (es : List Entry) → HasTickets es → (first_refusal m es ≡ None → IsLegal m es) × (IsConforming m → IsFresh m 0 → IsLegal m es → first_refusal m es ≡ None)
+
+-- the live names of the replay of entries whose tickets count up from 0 are below the next new one, where those of the mesh are
+-- below the first one
+abbrev pub NamesStayFresh : Type 0
+NamesStayFresh = (m : Undivided) (es : List Entry) → IsFresh m 0 → HasTickets es → IsFresh (replayed m es) (length es)
+
+-- the first entries of a legal journal are a legal one
+abbrev pub PrefixIsLegal : Type 0
+PrefixIsLegal = (m : Undivided) (es : List Entry) (n : ℕ) → IsLegal m es → IsLegal m (take n es)
 
 -- a contraction that passes on a conforming mesh meets the link condition
 abbrev pub ContractionMeetsLinkCondition : Type 0

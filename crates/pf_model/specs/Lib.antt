@@ -1,4 +1,5 @@
 pub mod Rising
+pub mod Limits
 pub mod Clauses
 pub mod Mesh
 pub mod Conforming
@@ -6,6 +7,7 @@ pub mod Ends
 pub mod Stars
 pub mod Fans
 pub mod Lengths
+pub mod Rows
 pub mod Conditions
 pub mod Applied
 pub mod Replay
@@ -16,3 +18,4 @@ pub mod Build
 pub mod Tables
 pub mod Texts
 pub mod Laws
+pub mod Exchange

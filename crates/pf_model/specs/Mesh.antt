@@ -6,6 +6,7 @@ use Rattle.pf_geom.specs.Plane.{orient_of, len2_of}
 use Rattle.pf_model.specs.declared.Tri.{Tri}
 use Rattle.pf_model.specs.declared.Site.{Site}
 use Rattle.pf_model.specs.declared.Band.{Band}
+use Rattle.pf_model.specs.declared.Side.{Side}
 
 -- a mesh as data: the number of the nodes that were read, from which new names count up, the live nodes by rising name, the
 -- triangles by rising corners, the bands with the default last, and the number of chunks
@@ -50,11 +51,6 @@ directed_edges_of ts = flat_map directed_edges_in ts
 -- the edge the other way
 abbrev pub reversed : DirectedEdge → DirectedEdge
 reversed e = record { from = e.to; to = e.from }
-
--- what stands left of a directed edge: the third corner of the triangle there, and its owner
-pub record Side : Type 0 where
-  pub apex : ℕ
-  pub owner : ℕ
 
 -- the corner that is neither end of the directed edge p to q of the triangle
 abbrev pub apex_in : ℕ → ℕ → Tri → ℕ

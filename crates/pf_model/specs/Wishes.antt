@@ -3,7 +3,8 @@ use Rattle.std.specs.Prelude.{◌≡◌, ℕ, zero, suc, ◌*◌, List, [], ◌�
 use Rattle.pf_model.specs.declared.Op.TheVariants.{Flip, Bisect, Contract}
 use Rattle.pf_model.specs.declared.RestLine.{RestLine}
 use Rattle.pf_model.specs.declared.RestLine.TheVariants as line
-use Rattle.pf_model.specs.Mesh.{Undivided, Side, side_of, is_edge, len2_at}
+use Rattle.pf_model.specs.declared.Side.{Side}
+use Rattle.pf_model.specs.Mesh.{Undivided, side_of, is_edge, len2_at}
 use Rattle.pf_model.specs.Lengths.{Edge, longest_of, min2_of, is_long}
 use Rattle.pf_model.specs.Sums.{edges_of}
 use Rattle.pf_model.specs.Conditions.{first_failing}

@@ -1,6 +1,6 @@
 //! Laws of the definitions, each as the contract of a function that does no work.
 
-ghost use Rattle.pf_model.specs.Laws.{AreaIsBoundarySum, BuiltIsConforming, BuiltIsFresh, ContractionMeetsLinkCondition, EdgeSumIsBoundarySum, JournalKeepsArea, JournalKeepsConforming, OneFanIsCycleOrPath, OperationKeepsArea, OperationKeepsConforming, WalkEndsAtTerminalEdge};
+ghost use Rattle.pf_model.specs.Laws.{AreaIsBoundarySum, BuiltIsConforming, BuiltIsFresh, ContractionMeetsLinkCondition, EdgeSumIsBoundarySum, JournalKeepsArea, JournalKeepsConforming, LegalIsUnrefused, NamesStayFresh, OneFanIsCycleOrPath, OperationKeepsArea, OperationKeepsConforming, PrefixIsLegal, WalkEndsAtTerminalEdge};
 
 /// A law, and no work: the mesh that is built of points in range, where no fault is found, is
 /// conforming.
@@ -47,6 +47,23 @@ pub fn journal_keeps_conforming()
 /// the first new one, has its area.
 pub fn journal_keeps_area()
     ensures { JournalKeepsArea }
+{}
+
+/// A law, and no work: a journal whose tickets count up from 0 is legal where no entry of it is refused;
+/// and where it is legal, on a conforming mesh whose live names are below the first new one, none is.
+pub fn legal_is_unrefused()
+    ensures { LegalIsUnrefused }
+{}
+
+/// A law, and no work: the live names of the replay of entries whose tickets count up from 0 are below
+/// the next new one, where those of the mesh are below the first one.
+pub fn names_stay_fresh()
+    ensures { NamesStayFresh }
+{}
+
+/// A law, and no work: the first entries of a legal journal are a legal one.
+pub fn prefix_is_legal()
+    ensures { PrefixIsLegal }
 {}
 
 /// A law, and no work: a contraction that passes on a conforming mesh meets the link condition.

@@ -6,18 +6,35 @@
 #![tactic(auto)]
 
 ghost use Rattle.std.specs.Prelude.{◌≡◌};
+ghost use Rattle.pf_model.specs.Limits.{most_names, most_spokes, most_triangles};
 ghost use Rattle.pf_model.specs.Ends.{normal_of};
 
 mod laws;
 
 pub use laws::{
     area_is_boundary_sum, built_is_conforming, built_is_fresh, contraction_meets_link_condition,
-    edge_sum_is_boundary_sum, journal_keeps_area, journal_keeps_conforming,
-    one_fan_is_cycle_or_path, operation_keeps_area, operation_keeps_conforming,
-    walk_ends_at_terminal_edge,
+    edge_sum_is_boundary_sum, journal_keeps_area, journal_keeps_conforming, legal_is_unrefused,
+    names_stay_fresh, one_fan_is_cycle_or_path, operation_keeps_area, operation_keeps_conforming,
+    prefix_is_legal, walk_ends_at_terminal_edge,
 };
 use pf_geom::Point;
 use thiserror::Error;
+
+/// The most names that nodes may have: those that were read, and one for each operation.
+pub const MOST_NAMES: u32 = 1_048_576;
+
+/// The most triangles that may be read.
+pub const MOST_TRIANGLES: u32 = 2_097_152;
+
+/// The most triangles at a node that is contracted.
+pub const MOST_SPOKES: u32 = 60;
+
+/// A fact, and no work: the limits of the code are those of the definitions.
+pub fn limits_are_defined()
+    ensures names { MOST_NAMES ≡ most_names }
+    ensures triangles { MOST_TRIANGLES ≡ most_triangles }
+    ensures spokes { MOST_SPOKES ≡ most_spokes }
+{}
 
 /// A live node and where it stands.
 #[derive(Clone, Copy, Debug, PartialEq, Eq)]
@@ -32,6 +49,14 @@ pub struct Tri {
     pub a: u32,
     pub b: u32,
     pub c: u32,
+    pub owner: u16,
+}
+
+/// What stands left of a directed edge: the third corner of the triangle there, and the chunk that owns
+/// the triangle.
+#[derive(Clone, Copy, Debug, PartialEq, Eq)]
+pub struct Side {
+    pub apex: u32,
     pub owner: u16,
 }
 
@@ -137,6 +162,22 @@ pub enum Cond {
     TooLong { a: u32, b: u32 },
 }
 
+/// Why an entry of a journal isn't applied to a mesh.
+#[derive(Clone, Copy, Debug, PartialEq, Eq)]
+pub enum Refusal {
+    /// The first end, as written, that isn't live.
+    Gone { node: u32 },
+    /// Both ends are live: the first condition that the operation fails.
+    Failing { cond: Cond },
+}
+
+/// The first entry of a journal that isn't applied to the replay of those before it: its ticket, and why.
+#[derive(Clone, Copy, Debug, PartialEq, Eq)]
+pub struct FirstRefusal {
+    pub ticket: u32,
+    pub why: Refusal,
+}
+
 /// A line of the rest list: what is left to do, with the condition that forbids it, or `None` where the
 /// operation passes.
 #[derive(Clone, Copy, Debug, PartialEq, Eq)]
@@ -177,6 +218,3 @@ pub enum BuildErr {
     #[error("memory ran out")]
     Memory,
 }
-
-#[cfg(test)]
-mod tests;

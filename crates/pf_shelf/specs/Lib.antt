@@ -4,5 +4,6 @@ pub mod Files
 pub mod Memory
 pub mod Places
 pub mod Real
+pub mod Seen
 pub mod Sink
 pub mod Steps

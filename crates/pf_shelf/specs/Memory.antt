@@ -3,6 +3,7 @@ use Rattle.std.specs.Prelude.{◌≡◌, ◌≢◌, ℕ, ◌+◌, ◌<◌, List,
 use Rattle.std.specs.Str.{bytes_eq}
 use Rattle.pf_shelf.specs.Count.{raised}
 use Rattle.pf_shelf.specs.Files.{Files, file_at}
+use Rattle.pf_shelf.specs.Seen.{Seen, Heard}
 use Rattle.pf_shelf.specs.declared.shelf.ShelfFault.{ShelfFault}
 use Rattle.pf_shelf.specs.declared.shelf.ShelfFault.TheVariants.{Failed, Absent}
 use Rattle.pf_shelf.specs.declared.shelf.SinkFault.{SinkFault}
@@ -34,6 +35,10 @@ pub record MemFiles : Type 0 where
   pub failing : List Call
   pub files : Files
   pub rooms : Rooms
+
+-- what contracts see of it as a shelf
+abbrev pub seen_of : MemFiles → Seen
+seen_of shelf = record { told = Some shelf.files; read_faults = shelf.read_faults; write_faults = shelf.write_faults; misses = shelf.misses; taken = shelf.taken }
 
 -- the bytes under a name; empty where the name isn't held
 abbrev pub file_of : Files → List ℕ → List ℕ
@@ -87,6 +92,10 @@ pub record MemText : Type 0 where
   pub failing : List ℕ
   pub text : List ℕ
   pub room : ℕ
+
+-- what contracts see of it as a sink
+abbrev pub heard_of : MemText → Heard
+heard_of sink = record { told = Some sink.text; faults = sink.faults }
 
 -- after an append of these bytes that gave this answer
 abbrev pub after_say : MemText → List ℕ → Result ℕ SinkFault → MemText

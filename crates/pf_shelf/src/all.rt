@@ -48,31 +48,33 @@ pub fn read_all<S: Shelf>(
     limit: u64,
 ) -> Result<Vec<u8>, ReadErr>
     ensures within { IfOk result (λ file. vec_len file ≤ limit) }
-    ensures whole { Tells (S.told shelf.old) →
-        IfOk result (λ file. held (S.told shelf.old) name.now ≡ Some file.items) }
+    ensures whole { Tells (S.seen shelf.old).told →
+        IfOk result (λ file. held (S.seen shelf.old).told name.now ≡ Some file.items) }
 
     // A missing file.
-    ensures missing { IsErrOf result ReadErr.Missing → Rose (S.misses shelf.old) (S.misses shelf.new) }
-    ensures not_held { Tells (S.told shelf.old) →
-        IsErrOf result ReadErr.Missing → held (S.told shelf.old) name.now ≡ None }
+    ensures missing { IsErrOf result ReadErr.Missing → Rose (S.seen shelf.old).misses (S.seen shelf.new).misses }
+    ensures not_held { Tells (S.seen shelf.old).told →
+        IsErrOf result ReadErr.Missing → held (S.seen shelf.old).told name.now ≡ None }
+    ensures always_missing { (S.seen shelf.old).misses < (S.seen shelf.new).misses → IsErrOf result ReadErr.Missing }
 
-    // A failing read.
-    ensures fault { IsErrOf result ReadErr.Fault → Rose (S.read_faults shelf.old) (S.read_faults shelf.new) }
+    // A failing read: a read that was counted as one is never given another name.
+    ensures fault { IsErrOf result ReadErr.Fault → Rose (S.seen shelf.old).read_faults (S.seen shelf.new).read_faults }
+    ensures always_fault { (S.seen shelf.old).read_faults < (S.seen shelf.new).read_faults → IsErrOf result ReadErr.Fault }
 
     // A file that is too long: the answer comes only there, and there always, want of memory aside.
     ensures names_limit { IfErr result (λ error. IfTooLong error (λ named. named ≡ limit)) }
-    ensures too_long { IsErrOf result (ReadErr.TooLong limit) → RoseByMore limit (S.taken shelf.old) (S.taken shelf.new) }
-    ensures always_too_long { S.taken shelf.old + limit < S.taken shelf.new →
+    ensures too_long { IsErrOf result (ReadErr.TooLong limit) → RoseByMore limit (S.seen shelf.old).taken (S.seen shelf.new).taken }
+    ensures always_too_long { (S.seen shelf.old).taken + limit < (S.seen shelf.new).taken →
         IsErrOf result (ReadErr.TooLong limit) ⊎ IsErrOf result ReadErr.Memory }
-    ensures longer { Tells (S.told shelf.old) →
-        IsErrOf result (ReadErr.TooLong limit) → limit < length (bytes_at (S.told shelf.old) name.now) }
+    ensures longer { Tells (S.seen shelf.old).told →
+        IsErrOf result (ReadErr.TooLong limit) → limit < length (bytes_at (S.seen shelf.old).told name.now) }
 
     // Whatever it answers.
-    ensures files { IsAsBefore (S.told shelf.old) (S.told shelf.new) }
-    ensures read_faults { S.read_faults shelf.old ≤ S.read_faults shelf.new }
-    ensures write_faults { S.write_faults shelf.old ≤ S.write_faults shelf.new }
-    ensures misses { S.misses shelf.old ≤ S.misses shelf.new }
-    ensures taken { S.taken shelf.old ≤ S.taken shelf.new }
+    ensures files { IsAsBefore (S.seen shelf.old).told (S.seen shelf.new).told }
+    ensures read_faults { (S.seen shelf.old).read_faults ≤ (S.seen shelf.new).read_faults }
+    ensures write_faults { (S.seen shelf.new).write_faults ≡ (S.seen shelf.old).write_faults }
+    ensures misses { (S.seen shelf.old).misses ≤ (S.seen shelf.new).misses }
+    ensures taken { (S.seen shelf.old).taken ≤ (S.seen shelf.new).taken }
 {
     let mut file = Vec::new(alloc);
     let mut at = 0;
@@ -125,19 +127,20 @@ fn next_len(len: usize, limit: u64) -> usize
 
 /// Writes the file, new or not. It takes no memory of its own.
 pub fn write_all<S: Shelf>(shelf: &mut S, name: &str, bytes: &[u8]) -> Result<(), WriteErr>
-    ensures whole { Tells (S.told shelf.old) → OnOk result (held (S.told shelf.new) name.now ≡ Some bytes.now) }
+    ensures whole { Tells (S.seen shelf.old).told → OnOk result (held (S.seen shelf.new).told name.now ≡ Some bytes.now) }
 
     // A failing write: at the first call all files are as before, later a prefix stands under the name.
-    ensures fault { OnErr result (Rose (S.write_faults shelf.old) (S.write_faults shelf.new)) }
-    ensures prefix { OnErr result (IsAsBefore (S.told shelf.old) (S.told shelf.new)
-        ⊎ HoldsPrefix name.now bytes.now (S.told shelf.new)) }
+    ensures fault { OnErr result (Rose (S.seen shelf.old).write_faults (S.seen shelf.new).write_faults) }
+    ensures no_fault { OnOk result ((S.seen shelf.new).write_faults ≡ (S.seen shelf.old).write_faults) }
+    ensures prefix { OnErr result (IsAsBefore (S.seen shelf.old).told (S.seen shelf.new).told
+        ⊎ HoldsPrefix name.now bytes.now (S.seen shelf.new).told) }
 
     // Whatever it answers.
-    ensures others { ChangesOnly name.now (S.told shelf.old) (S.told shelf.new) }
-    ensures read_faults { S.read_faults shelf.old ≤ S.read_faults shelf.new }
-    ensures write_faults { S.write_faults shelf.old ≤ S.write_faults shelf.new }
-    ensures misses { S.misses shelf.old ≤ S.misses shelf.new }
-    ensures taken { S.taken shelf.new ≡ S.taken shelf.old }
+    ensures others { ChangesOnly name.now (S.seen shelf.old).told (S.seen shelf.new).told }
+    ensures read_faults { (S.seen shelf.new).read_faults ≡ (S.seen shelf.old).read_faults }
+    ensures write_faults { (S.seen shelf.old).write_faults ≤ (S.seen shelf.new).write_faults }
+    ensures misses { (S.seen shelf.new).misses ≡ (S.seen shelf.old).misses }
+    ensures taken { (S.seen shelf.new).taken ≡ (S.seen shelf.old).taken }
 {
     match shelf.create(name) {
         Ok(()) => (),
@@ -155,14 +158,15 @@ pub fn write_all<S: Shelf>(shelf: &mut S, name: &str, bytes: &[u8]) -> Result<()
 
 /// Gives the sink all the bytes. It takes no memory of its own.
 pub fn say_all<K: Sink>(sink: &mut K, bytes: &[u8]) -> Result<(), WriteErr>
-    ensures whole { OnOk result (K.told sink.new ≡ extended (K.told sink.old) bytes.now) }
+    ensures whole { OnOk result ((K.heard sink.new).told ≡ extended (K.heard sink.old).told bytes.now) }
 
     // A failing write: the sink has gained a prefix.
-    ensures fault { OnErr result (Rose (K.faults sink.old) (K.faults sink.new)) }
-    ensures prefix { OnErr result (GainsPrefix bytes.now (K.told sink.old) (K.told sink.new)) }
+    ensures fault { OnErr result (Rose (K.heard sink.old).faults (K.heard sink.new).faults) }
+    ensures no_fault { OnOk result ((K.heard sink.new).faults ≡ (K.heard sink.old).faults) }
+    ensures prefix { OnErr result (GainsPrefix bytes.now (K.heard sink.old).told (K.heard sink.new).told) }
 
     // Whatever it answers.
-    ensures faults { K.faults sink.old ≤ K.faults sink.new }
+    ensures faults { (K.heard sink.old).faults ≤ (K.heard sink.new).faults }
 {
     let mut said = 0;
     while said < bytes.len() {

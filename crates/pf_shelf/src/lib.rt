@@ -19,6 +19,3 @@ pub use mem_sink::MemSink;
 pub use memory::{Call, Kind, MemShelf, NoRoom};
 pub use real::{FileShelf, StdSink};
 pub use shelf::{Shelf, ShelfFault, Sink, SinkFault};
-
-#[cfg(test)]
-mod tests;

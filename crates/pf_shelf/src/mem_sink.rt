@@ -63,11 +63,9 @@ impl MemSink {
 }
 
 impl Sink for MemSink {
-    ghost use Rattle.pf_shelf.specs.Memory.{after_say};
+    ghost use Rattle.pf_shelf.specs.Memory.{heard_of, after_say};
 
-    ghost faults = { λ sink. sink.faults };
-
-    ghost told = { λ sink. Some sink.text };
+    ghost heard = { heard_of };
 
     /// Fails exactly where the call is listed, or the text would pass its room. Else it takes all the bytes.
     fn append(&mut self, bytes: &[u8]) -> Result<usize, SinkFault>

@@ -136,17 +136,9 @@ impl MemShelf {
 
 impl Shelf for MemShelf {
     ghost use Rattle.pf_shelf.specs.Files.{file_at};
-    ghost use Rattle.pf_shelf.specs.Memory.{IsListed, HasNoPlace, HasNoRoom, file_of, KeepsOthers, after_read, after_create, after_append};
+    ghost use Rattle.pf_shelf.specs.Memory.{seen_of, IsListed, HasNoPlace, HasNoRoom, file_of, KeepsOthers, after_read, after_create, after_append};
 
-    ghost read_faults = { λ shelf. shelf.read_faults };
-
-    ghost write_faults = { λ shelf. shelf.write_faults };
-
-    ghost misses = { λ shelf. shelf.misses };
-
-    ghost taken = { λ shelf. shelf.taken };
-
-    ghost told = { λ shelf. Some shelf.files };
+    ghost seen = { seen_of };
 
     /// Fails exactly where the call is listed. Else it fills `buf`, or gives all that is left.
     fn read_at(&mut self, name: &str, at: u64, buf: &mut [u8]) -> Result<usize, ShelfFault>

@@ -1,6 +1,6 @@
 // The real devices: files of the system, and its standard output. No clause says which bytes reach them.
 ghost use Rattle.std.specs.Prelude.{◌≡◌, ◌<◌, ◌≤◌, length, None, IfOk};
-ghost use Rattle.pf_shelf.specs.Real.{no_counts};
+ghost use Rattle.pf_shelf.specs.Real.{no_counts, seen_of};
 
 use crate::count::raise;
 use crate::{Shelf, ShelfFault, Sink, SinkFault};
@@ -68,15 +68,7 @@ fn add_to<R: Files>(rt: &R, name: &str, bytes: &[u8]) -> io::Result<usize>
 }
 
 impl<R: Files> Shelf for FileShelf<'_, R> {
-    ghost read_faults = { λ shelf. shelf.read_faults };
-
-    ghost write_faults = { λ shelf. shelf.write_faults };
-
-    ghost misses = { λ shelf. shelf.misses };
-
-    ghost taken = { λ shelf. shelf.taken };
-
-    ghost told = { λ _. None };
+    ghost seen = { seen_of };
 
     fn read_at(&mut self, name: &str, at: u64, buf: &mut [u8]) -> Result<usize, ShelfFault> {
         match read_from(self.rt, name, at, buf) {
@@ -141,9 +133,7 @@ impl<'a, R: Print> StdSink<'a, R> {
 }
 
 impl<R: Print> Sink for StdSink<'_, R> {
-    ghost faults = { λ sink. sink };
-
-    ghost told = { λ _. None };
+    ghost heard = { λ sink. record { told = None; faults = sink } };
 
     fn append(&mut self, bytes: &[u8]) -> Result<usize, SinkFault> {
         match self.rt.write_some(bytes) {

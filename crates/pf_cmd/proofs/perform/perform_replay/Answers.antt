@@ -1,65 +1,89 @@
-use Rattle.std.proofs.Common.{sym, ◌∙◌, ap, subst, Ok, [], inl, inr, map, refl}
+use Rattle.std.proofs.Common.{◌≡◌, List, [], ◌∷◌, refl, sym, ◌∙◌, ap, subst, Ok, inl, inr, map}
 use Rattle.std.proofs.lemmas.Result.{err_from_is_err_and}
-use Rattle.pf_shelf.specs.Files.{held}
-use Rattle.pf_cmd.specs.declared.place.Place.TheVariants.{OutNode, OutEle, OutPart}
-use Rattle.pf_cmd.specs.Shown.{stems_of}
+use Rattle.pf_shelf.specs.Count.{Rose}
+use Rattle.pf_shelf.specs.Files.{Tells, held}
+use Rattle.pf_say.specs.declared.place.Place.TheVariants.{Node, Ele, Part, Size, Journal, OutNode, OutEle, OutPart}
+use Rattle.pf_say.specs.Shown.{stems_of}
+use Rattle.pf_cmd.specs.declared.words.Task.TheVariants.{Replay}
 use Rattle.pf_cmd.specs.Input.{◌>>=◌}
-use Rattle.pf_cmd.specs.Output.{named_text, given_of, replay_given, written, written_to, IsNoneOf}
-use Rattle.pf_cmd.specs.CutOff.{IsCut}
-use Rattle.pf_cmd.proofs.Reading.{explains-then, held-before, tells-before, rose-earlier, memory-explains}
-use Rattle.pf_cmd.proofs.OutputLemmas.{none-of-three}
+use Rattle.pf_cmd.specs.Output.{Given, named_text, given_of, written, IsNoneOf}
+use Rattle.pf_cmd.specs.Commands.{Command, to_replay, journalled_in, input_in, replay_texts, replay_given}
+use Rattle.pf_cmd.specs.CutOff.{IsCutAt}
+use Rattle.pf_cmd.specs.Ends.{IsGiven}
+use Rattle.pf_cmd.proofs.Reading.{explains-then, held-before, tells-before, memory-explains, quiet-trans}
+use Rattle.pf_cmd.proofs.OutputLemmas.{none-of}
 use Rattle.pf_cmd.proofs.perform.perform_replay.Goals as goal
 
-pub returns-in_err-after-clause-ends : goal.returns-in_err-after-clause-ends
-returns-in_err-after-clause-ends g c =
+pub returns-in_err-after-clause-stops : goal.returns-in_err-after-clause-stops
+returns-in_err-after-clause-stops g c =
     let p = err_from_is_err_and c.from_residual.result c.from_residual.ensures.1 in
-    rw (p.1, p.2) (record { by = inr (explains-then _ _ _ _ _ c.in_err-after.ensures.stop, c.in_err-after.ensures.only_read) })
-
-pub returns-in_err-output-clause-ends : goal.returns-in_err-output-clause-ends
-returns-in_err-output-clause-ends g c =
-    let p = err_from_is_err_and c.from_residual-in_err-output.result c.from_residual-in_err-output.ensures.1 in
-    rw (p.1, p.2) (record { by = inr (memory-explains _ _ _ _ c.in_err-output.ensures.memory, c.in_ok-after.ensures.only_read) })
-
-pub returns-in_err-write_files-clause-ends : goal.returns-in_err-write_files-clause-ends
-returns-in_err-write_files-clause-ends g c =
-    let p = err_from_is_err_and c.from_residual-in_err-write_files.result c.from_residual-in_err-write_files.ensures.1 in
     rw (p.1, p.2)
-    (record {
-      by = inl (
-        c.in_err-write_files.ensures.stop,
-        rose-earlier _ _ _ c.in_ok-after.ensures.only_read.write_faults c.in_err-write_files.ensures.fault,
-        λ tells.
+    (inr (record {
+      explained = explains-then (Node ∷ Ele ∷ Part ∷ Size ∷ Journal ∷ []) (Node ∷ Ele ∷ Part ∷ Size ∷ Journal ∷ []) _ _ _ (journalled_in c.args.scale) (λ f input. Ok (to_replay input)) _ (λ q a. a) c.in_err-after.ensures.stop;
+      only_read = c.in_err-after.ensures.only_read;
+    }))
+
+pub returns-in_err-output-clause-stops : goal.returns-in_err-output-clause-stops
+returns-in_err-output-clause-stops g c =
+    let p = err_from_is_err_and c.from_residual-in_err-output.result c.from_residual-in_err-output.ensures.1 in
+    rw (p.1, p.2)
+    (inr (record {
+      explained = memory-explains (Node ∷ Ele ∷ Part ∷ Size ∷ Journal ∷ []) _ _ _ (input_in (record { task = Replay; stems = stems_of c.args.stems; scale = c.args.scale })) _ c.in_err-output.ensures.memory c.in_ok-after.ensures.quiet;
+      only_read = c.in_ok-after.ensures.only_read;
+    }))
+
+pub returns-clause-stops : goal.returns-clause-stops
+returns-clause-stops g c =
+    inl (record {
+      place = c.in-Err.place;
+      named = refl;
+      fault = subst (λ n. Rose n (g.S.Shelf.seen c.write_files.new.shelf).write_faults) c.in_ok-after.ensures.only_read.write_faults c.in-Err.ensures.fault;
+      halted = λ tells. record {
+        given = given_of c.in_ok-output.output;
+        is_given =
+            let after = c.in_ok-after.ensures.replayed tells in
             record {
-              gives = given_of c.in_ok-output.output;
-              is_given = ap (λ r. r >>= (λ after. Ok (replay_given (stems_of c.args.stems) after))) (c.in_ok-after.ensures.replayed tells) ∙ ap (λ given. Ok given) (sym c.in_ok-output.ensures.output);
-              cut =
-                  subst (λ look. IsCut (map named_text c.in_ok-output.output.files.items) look (held (g.S.Shelf.told c.write_files.new.shelf)) c.in_err-write_files.field-0.0) (held-before _ _ c.in_ok-after.ensures.only_read.files)
-                  (subst (λ files. IsCut (map named_text files) (held (g.S.Shelf.told c.replay.new.shelf)) (held (g.S.Shelf.told c.write_files.new.shelf)) c.in_err-write_files.field-0.0) c.deref.ensures.value
-                  (c.in_err-write_files.ensures.cut (tells-before _ _ c.in_ok-after.ensures.only_read.files tells)));
-            },
-      );
+              input = to_replay after.input;
+              is_input = ap (λ r. r >>= (λ input. Ok (to_replay input))) after.is_input;
+              may = (after.legal, c.in_ok-output.ensures.output ∙ λ i. replay_texts (stems_of c.args.stems) (after.base i) (after.mesh i) (after.operations i));
+            };
+        cut =
+            subst (λ look. IsCutAt (map named_text c.in_ok-output.output.files.items) look (held (g.S.Shelf.seen c.write_files.new.shelf).told) c.in-Err.place) (held-before (g.S.Shelf.seen c.args.shelf.now) (g.S.Shelf.seen c.replay.new.shelf) c.in_ok-after.ensures.only_read.files)
+            (subst (λ files. IsCutAt (map named_text files) (held (g.S.Shelf.seen c.replay.new.shelf).told) (held (g.S.Shelf.seen c.write_files.new.shelf).told) c.in-Err.place) c.deref.ensures.value
+            (c.in-Err.ensures.cut (tells-before _ _ c.in_ok-after.ensures.only_read.files tells)));
+      };
+      quiet = quiet-trans _ _ _ c.in_ok-after.ensures.quiet c.write_files.ensures.quiet;
     })
 
-pub returns-in_err-write_files-clause-others : goal.returns-in_err-write_files-clause-others
-returns-in_err-write_files-clause-others g c = λ name p q r.
-    c.in_err-write_files.ensures.others name
-    (subst (λ ws. IsNoneOf ws name) (sym (ap (map named_text) c.deref.ensures.value ∙ ap (λ given. given.writes) c.in_ok-output.ensures.output)) (none-of-three (written_to (stems_of c.args.stems) OutNode []) (written_to (stems_of c.args.stems) OutEle []) (written_to (stems_of c.args.stems) OutPart []) name p q r))
-    ∙ c.in_ok-after.ensures.only_read.files.same name
-
 pub returns-clause-others : goal.returns-clause-others
-returns-clause-others g c = λ name p q r.
-    c.in_ok-write_files.ensures.others name
-    (subst (λ ws. IsNoneOf ws name) (sym (ap (map named_text) c.deref.ensures.value ∙ ap (λ given. given.writes) c.in_ok-output.ensures.output)) (none-of-three (written_to (stems_of c.args.stems) OutNode []) (written_to (stems_of c.args.stems) OutEle []) (written_to (stems_of c.args.stems) OutPart []) name p q r))
+returns-clause-others g c = λ name h.
+    c.write_files.ensures.others name
+    (subst (λ ws. IsNoneOf ws name) (sym (ap (map named_text) c.deref.ensures.value ∙ ap (λ (given : Given). given.writes) c.in_ok-output.ensures.output)) (none-of (stems_of c.args.stems) (OutNode ∷ OutEle ∷ OutPart ∷ []) (replay_texts (stems_of c.args.stems) c.in_ok-after.after.base c.in_ok-after.after.mesh.mesh c.in_ok-after.after.operations).writes name refl h))
     ∙ c.in_ok-after.ensures.only_read.files.same name
 
-pub returns-clause-done : goal.returns-clause-done
-returns-clause-done g c = λ tells.
-    record {
-      gives = given_of c.in_ok-output.output;
-      is_given = ap (λ r. r >>= (λ after. Ok (replay_given (stems_of c.args.stems) after))) (c.in_ok-after.ensures.replayed tells) ∙ ap (λ given. Ok given) (sym c.in_ok-output.ensures.output);
-      files = λ name.
-          c.in_ok-write_files.ensures.written (tells-before _ _ c.in_ok-after.ensures.only_read.files tells) name
-          ∙ (ap (λ files. written (map named_text files) (held (g.S.Shelf.told c.replay.new.shelf)) name) c.deref.ensures.value
-          ∙ ap (λ look. written (map named_text c.in_ok-output.output.files.items) look name) (held-before _ _ c.in_ok-after.ensures.only_read.files));
-      says = refl;
-    }
+pub returns-in-Ok-clause-others : goal.returns-in-Ok-clause-others
+returns-in-Ok-clause-others g c = λ name h.
+    c.write_files.ensures.others name
+    (subst (λ ws. IsNoneOf ws name) (sym (ap (map named_text) c.deref.ensures.value ∙ ap (λ (given : Given). given.writes) c.in_ok-output.ensures.output)) (none-of (stems_of c.args.stems) (OutNode ∷ OutEle ∷ OutPart ∷ []) (replay_texts (stems_of c.args.stems) c.in_ok-after.after.base c.in_ok-after.after.mesh.mesh c.in_ok-after.after.operations).writes name refl h))
+    ∙ c.in_ok-after.ensures.only_read.files.same name
+
+pub returns-in-Ok-clause-done : goal.returns-in-Ok-clause-done
+returns-in-Ok-clause-done g c = record {
+  done = λ tells. record {
+    given = given_of c.in_ok-output.output;
+    is_given =
+        let after = c.in_ok-after.ensures.replayed tells in
+        record {
+          input = to_replay after.input;
+          is_input = ap (λ r. r >>= (λ input. Ok (to_replay input))) after.is_input;
+          may = (after.legal, c.in_ok-output.ensures.output ∙ λ i. replay_texts (stems_of c.args.stems) (after.base i) (after.mesh i) (after.operations i));
+        };
+    files = λ name.
+        c.in-Ok.ensures.written (tells-before _ _ c.in_ok-after.ensures.only_read.files tells) name
+        ∙ (ap (λ files. written (map named_text files) (held (g.S.Shelf.seen c.replay.new.shelf).told) name) c.deref.ensures.value
+        ∙ ap (λ look. written (map named_text c.in_ok-output.output.files.items) look name) (held-before (g.S.Shelf.seen c.args.shelf.now) (g.S.Shelf.seen c.replay.new.shelf) c.in_ok-after.ensures.only_read.files));
+    says = refl;
+  };
+  quiet = quiet-trans _ _ _ c.in_ok-after.ensures.quiet c.write_files.ensures.quiet;
+  write_faults = c.in-Ok.ensures.no_fault ∙ c.in_ok-after.ensures.only_read.write_faults;
+}

@@ -1,33 +1,54 @@
-use Rattle.std.proofs.Common.{◌≡◌, ℕ, List, sym, ap, subst, Some, None, ◌⊎◌, inl, inr}
-use Rattle.std.specs.Prelude.{is_some}
-use Rattle.pf_cmd.specs.declared.stop.Stop.{Stop}
-use Rattle.pf_cmd.specs.Shown.{shown, stems_of}
-use Rattle.pf_cmd.specs.Words.{Command, command_of}
-use Rattle.pf_cmd.specs.Place.{Stems}
-use Rattle.pf_cmd.specs.Causes.{Seen}
-use Rattle.pf_cmd.specs.Stop.{status_of, line_of}
-use Rattle.pf_cmd.specs.Faults.{memory_text}
-use Rattle.pf_cmd.specs.Ends.{stems_in, given_by, unwritten_in, IsUnwritten, Ends}
-use Rattle.pf_shelf.specs.Files.{held}
-use Rattle.pf_cmd.specs.Runs.{Heard, Says, Runs, done, stopped, forgot}
+use Rattle.std.proofs.Common.{◌≡◌, ℕ, List, refl, sym, ◌∙◌, ap, subst, Some, None, ◌⊎◌, inl, inr, true, arith}
+use Rattle.pf_shelf.specs.Seen.{Seen, Heard}
+use Rattle.pf_say.specs.declared.stop.Trouble.TheVariants.{Missing, Unread, Unwritten, Memory}
+use Rattle.pf_say.specs.declared.stop.Stop.{Stop}
+use Rattle.pf_say.specs.declared.stop.Stop.TheVariants.{Input, Limit, Operation, Device}
+use Rattle.pf_say.specs.Shown.{stems_of}
+use Rattle.pf_say.specs.Stop.{status_of, line_of, trouble_in, memory_stop, memory_text}
+use Rattle.pf_cmd.specs.Shown.{shown}
+use Rattle.pf_cmd.specs.Words.{command_of}
+use Rattle.pf_cmd.specs.Causes.{IsQuiet, is_unread, is_missing}
+use Rattle.pf_cmd.specs.Commands.{Command, input_in, reads_of}
+use Rattle.pf_cmd.specs.Ends.{Stops, StopsReading}
+use Rattle.pf_cmd.specs.Runs.{words_text, IsSaid, refused, done, stopped, Runs}
+use Rattle.pf_cmd.proofs.Reading.{not-risen, memory-explains}
 use Rattle.pf_cmd.proofs.program.ran.Goals as goal
 
--- no file was being written
-not-unwritten : (stop : Stop) → unwritten_in stop ≡ None → IsUnwritten stop → ⊥
-not-unwritten stop e h = (let k = ap is_some e in cc)
+-- a reason that isn't what happened to a device is no failed read and no missing file
+not-device : (stop : Stop) → trouble_in stop ≡ None → (is_unread stop ≡ true → ⊥) × (is_missing stop ≡ true → ⊥)
+not-device (Device trouble) e = absurd (let k = e in cc)
+not-device (Input place fault) e = (λ h. (let k = h in cc), λ h. (let k = h in cc))
+not-device (Limit count) e = (λ h. (let k = h in cc), λ h. (let k = h in cc))
+not-device (Operation ticket why) e = (λ h. (let k = h in cc), λ h. (let k = h in cc))
+
+-- where another reason wasn't said for want of memory, it is as if memory had run out before
+forgotten : (command : Command) (old new : Seen) (stop : Stop) → trouble_in stop ≡ None → Stops command old new stop → Stops command old new memory_stop
+forgotten command old new stop e stops = elim stops [
+  | inl w ↦ absurd (let k = sym e ∙ ap trouble_in w.named in cc)
+  | inr h ↦ inr (record {
+    explained = memory-explains (reads_of command.task) old new command.stems (input_in command) memory_stop refl (record {
+      read_faults = not-risen _ _ h.only_read.read_faults (λ l. (not-device stop e).0 (h.explained.unread l));
+      misses = not-risen _ _ h.only_read.misses (λ l. (not-device stop e).1 (h.explained.missing l));
+    });
+    only_read = h.only_read;
+  })
+]
 
 -- the reason was said, or that memory ran out
-stop-runs : (words : List (List ℕ)) (old new : Seen) (silent heard : Heard) (r : ℕ) (command : Command) (stop : Stop) (stems : Stems) → command_of words ≡ Some command → stems ≡ stems_in command → Ends (given_by (held old.told) command) old new stop → Says (status_of stop) (line_of stems stop) silent heard r ⊎ ((unwritten_in stop ≡ None) × Says 5 memory_text silent heard r) → Runs words old new silent heard r
-stop-runs words old new silent heard r command stop stems asked e ends says = elim says [
-  | inl a ↦ stopped command asked stop ends (subst (λ s. Says (status_of stop) (line_of s stop) silent heard r) e a)
-  | inr b ↦ forgot command asked stop ends (not-unwritten stop b.0) b.1
+stop-runs : (words : List (List ℕ)) (old new : Seen) (silent heard : Heard) (r : ℕ) (command : Command) (stop : Stop) → command_of words ≡ Some command → Stops command old new stop → IsSaid (status_of stop) (line_of command.stems stop) silent heard r ⊎ ((trouble_in stop ≡ None) × IsSaid 5 memory_text silent heard r) → Runs words old new silent heard r
+stop-runs words old new silent heard r command stop asked stops says = elim says [
+  | inl a ↦ record { status = status_of stop; text = line_of command.stems stop; due = stopped command asked stop stops refl refl; said = a }
+  | inr b ↦ record { status = 5; text = memory_text; due = stopped command asked memory_stop (forgotten command old new stop b.0 stops) refl refl; said = b.1 }
 ]
 
 pub returns-in-Ok-clause-runs : goal.returns-in-Ok-clause-runs
-returns-in-Ok-clause-runs g c =
-    done (shown c.in-Some.command) (sym c.in-Some.ensures.command) c.in-Ok.report.items c.in-Ok.ensures.done
-    (subst (λ text. Says 0 text (record { faults = g.K.Sink.faults c.args.out.now; told = g.K.Sink.told c.args.out.now }) (record { faults = g.K.Sink.faults c.say-in-Ok.new.out; told = g.K.Sink.told c.say-in-Ok.new.out }) c.say-in-Ok.result) c.deref.ensures.value c.say-in-Ok.ensures)
+returns-in-Ok-clause-runs g c = record {
+  status = 0;
+  text = c.in-Ok.report.items;
+  due = done (shown c.in-Some.command) (sym c.in-Some.ensures.command) c.in-Ok.ensures.done refl;
+  said = subst (λ text. IsSaid 0 text (g.K.Sink.heard c.args.out.now) (g.K.Sink.heard c.say-in-Ok.new.out) c.say-in-Ok.result) c.deref.ensures.value c.say-in-Ok.ensures;
+}
 
 pub returns-in-Err-clause-runs : goal.returns-in-Err-clause-runs
 returns-in-Err-clause-runs g c =
-    stop-runs _ _ _ _ _ _ (shown c.in-Some.command) c.in-Err.stop (stems_of c.stems.result) (sym c.in-Some.ensures.command) c.stems.ensures c.in-Err.ensures.ends c.say_stop.ensures
+    stop-runs _ _ _ _ _ _ (shown c.in-Some.command) c.in-Err.stop (sym c.in-Some.ensures.command) c.in-Err.ensures.stops c.say_stop.ensures

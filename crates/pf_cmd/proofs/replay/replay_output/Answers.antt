@@ -1,8 +1,8 @@
 use Rattle.std.proofs.Common.{◌≡◌, [], ◌∷◌, ◌++◌, ◌∙◌, ap, map}
 use Rattle.pf_model.specs.Texts.{mesh_node_text, mesh_ele_text}
-use Rattle.pf_tables.specs.Part.{part_text_of}
-use Rattle.pf_cmd.specs.declared.place.Place.TheVariants.{OutNode, OutEle, OutPart}
-use Rattle.pf_cmd.specs.Shown.{stems_of}
+use Rattle.table_text.specs.Part.{part_text_of}
+use Rattle.pf_say.specs.declared.place.Place.TheVariants.{OutNode, OutEle, OutPart}
+use Rattle.pf_say.specs.Shown.{stems_of}
 use Rattle.pf_cmd.specs.Output.{named_text, written_to}
 use Rattle.pf_cmd.proofs.replay.replay_output.Goals as goal
 

@@ -18,21 +18,21 @@ within : (g : _) (c : goal.Else-at-limit g) → c.turns.at + c.in-Ok.n ≤ vec_l
 within g c = omega (arith, c.deref_mut.ensures.len, next_fits c.turns.at c.in-Ok.n c.deref_mut.result.now (longer g c) (c.in-Ok.ensures).fits)
 
 -- the file has not changed since the first turn
-same : (g : _) (c : goal.Else-at-limit g) → bytes_at (g.S.Shelf.told c.turns.shelf) c.args.name.now ≡ bytes_at (g.S.Shelf.told c.args.shelf.now) c.args.name.now
+same : (g : _) (c : goal.Else-at-limit g) → bytes_at (g.S.Shelf.seen c.turns.shelf).told c.args.name.now ≡ bytes_at (g.S.Shelf.seen c.args.shelf.now).told c.args.name.now
 same g c = ap (λ (o : Option (List ℕ)). unwrap_or o []) (c.turns.invariant.files.same c.args.name.now)
 
 pub turns-preserved : goal.turns-preserved
 turns-preserved g c = record {
   within = omega arith;
   in_file = within g c;
-  reached = λ tells. reached-next c.read_at.new.buf (bytes_at (g.S.Shelf.told c.args.shelf.now) c.args.name.now) c.turns.at c.in-Ok.n (c.turns.invariant.reached tells) (fits g c)
-      (rw (← same g c) ((c.in-Ok.ensures).bytes (still_tells (g.S.Shelf.told c.args.shelf.now) (g.S.Shelf.told c.turns.shelf) c.turns.invariant.files.tells tells)));
-  bytes = λ tells. read-next c.deref_mut.result.now c.read_at.new.buf _ _ (bytes_at (g.S.Shelf.told c.args.shelf.now) c.args.name.now) c.turns.at c.in-Ok.n (vec_len c.grow.new.file) (longer g c) (within g c) (fits g c)
+  reached = λ tells. reached-next c.read_at.new.buf (bytes_at (g.S.Shelf.seen c.args.shelf.now).told c.args.name.now) c.turns.at c.in-Ok.n (c.turns.invariant.reached tells) (fits g c)
+      (rw (← same g c) ((c.in-Ok.ensures).bytes (still_tells (g.S.Shelf.seen c.args.shelf.now).told (g.S.Shelf.seen c.turns.shelf).told c.turns.invariant.files.tells tells)));
+  bytes = λ tells. read-next c.deref_mut.result.now c.read_at.new.buf _ _ (bytes_at (g.S.Shelf.seen c.args.shelf.now).told c.args.name.now) c.turns.at c.in-Ok.n (vec_len c.grow.new.file) (longer g c) (within g c) (fits g c)
       (ap (λ (l : List ℕ). take c.turns.at l) c.deref_mut.ensures.value ∙ c.grow.ensures.same ∙ c.turns.invariant.bytes tells)
-      (rw (← same g c) ((c.in-Ok.ensures).bytes (still_tells (g.S.Shelf.told c.args.shelf.now) (g.S.Shelf.told c.turns.shelf) c.turns.invariant.files.tells tells)));
-  files = before_then (g.S.Shelf.told c.args.shelf.now) (g.S.Shelf.told c.turns.shelf) (g.S.Shelf.told c.read_at.new.self) c.turns.invariant.files (c.in-Ok.ensures).files;
+      (rw (← same g c) ((c.in-Ok.ensures).bytes (still_tells (g.S.Shelf.seen c.args.shelf.now).told (g.S.Shelf.seen c.turns.shelf).told c.turns.invariant.files.tells tells)));
+  files = before_then (g.S.Shelf.seen c.args.shelf.now).told (g.S.Shelf.seen c.turns.shelf).told (g.S.Shelf.seen c.read_at.new.self).told c.turns.invariant.files (c.in-Ok.ensures).files;
   taken = rw ((c.in-Ok.ensures).taken, c.turns.invariant.taken) (omega arith);
-  read_faults = omega (arith, (c.in-Ok.ensures).read_faults);
-  write_faults = omega (arith, (c.in-Ok.ensures).write_faults);
-  misses = omega (arith, (c.in-Ok.ensures).misses);
+  read_faults = (c.in-Ok.ensures).no_fault ∙ c.turns.invariant.read_faults;
+  write_faults = (c.in-Ok.ensures).write_faults ∙ c.turns.invariant.write_faults;
+  misses = (c.in-Ok.ensures).no_miss ∙ c.turns.invariant.misses;
 }

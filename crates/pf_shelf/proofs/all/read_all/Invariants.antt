@@ -7,13 +7,13 @@ abbrev pub invariant-turns : goal.invariant-turns
 invariant-turns g l = record {
   within : l.at ≤ l.limit;
   in_file : l.at ≤ vec_len l.file;
-  reached : Tells (g.S.Shelf.told l.fn.shelf) → l.at ≤ length (bytes_at (g.S.Shelf.told l.fn.shelf) l.name);
-  bytes : Tells (g.S.Shelf.told l.fn.shelf) → take l.at l.file.items ≡ take l.at (bytes_at (g.S.Shelf.told l.fn.shelf) l.name);
-  files : IsAsBefore (g.S.Shelf.told l.fn.shelf) (g.S.Shelf.told l.shelf);
-  taken : g.S.Shelf.taken l.shelf ≡ raised (g.S.Shelf.taken l.fn.shelf) l.at;
-  read_faults : g.S.Shelf.read_faults l.fn.shelf ≤ g.S.Shelf.read_faults l.shelf;
-  write_faults : g.S.Shelf.write_faults l.fn.shelf ≤ g.S.Shelf.write_faults l.shelf;
-  misses : g.S.Shelf.misses l.fn.shelf ≤ g.S.Shelf.misses l.shelf;
+  reached : Tells (g.S.Shelf.seen l.fn.shelf).told → l.at ≤ length (bytes_at (g.S.Shelf.seen l.fn.shelf).told l.name);
+  bytes : Tells (g.S.Shelf.seen l.fn.shelf).told → take l.at l.file.items ≡ take l.at (bytes_at (g.S.Shelf.seen l.fn.shelf).told l.name);
+  files : IsAsBefore (g.S.Shelf.seen l.fn.shelf).told (g.S.Shelf.seen l.shelf).told;
+  taken : (g.S.Shelf.seen l.shelf).taken ≡ raised (g.S.Shelf.seen l.fn.shelf).taken l.at;
+  read_faults : (g.S.Shelf.seen l.shelf).read_faults ≡ (g.S.Shelf.seen l.fn.shelf).read_faults;
+  write_faults : (g.S.Shelf.seen l.shelf).write_faults ≡ (g.S.Shelf.seen l.fn.shelf).write_faults;
+  misses : (g.S.Shelf.seen l.shelf).misses ≡ (g.S.Shelf.seen l.fn.shelf).misses;
 }
 
 abbrev pub decreases-turns : goal.decreases-turns

@@ -5,8 +5,8 @@ use Rattle.pf_shelf.proofs.all.say_all.Given as goal
 abbrev pub invariant-loop-said : goal.invariant-loop-said
 invariant-loop-said g l = record {
   within : l.said ≤ length l.bytes;
-  gained : g.K.Sink.told l.sink ≡ extended (g.K.Sink.told l.fn.sink) (take l.said l.bytes);
-  faults : g.K.Sink.faults l.fn.sink ≤ g.K.Sink.faults l.sink;
+  gained : (g.K.Sink.heard l.sink).told ≡ extended (g.K.Sink.heard l.fn.sink).told (take l.said l.bytes);
+  faults : (g.K.Sink.heard l.sink).faults ≡ (g.K.Sink.heard l.fn.sink).faults;
 }
 
 abbrev pub decreases-loop-said : goal.decreases-loop-said

@@ -5,11 +5,17 @@ use Rattle.pf_model.specs.Conditions.{first_failing}
 use Rattle.pf_model.specs.Applied.{IsFresh, applied, op_applied}
 use Rattle.pf_model.specs.Sums.{area2_of}
 use Rattle.pf_model.proofs.ReplayKeeps.{applied_conforms, applied_area}
-use Rattle.pf_mesh.specs.Mesh.{mesh_of}
-use Rattle.pf_mesh.specs.Operations.{CanApply, IsChange, AreParts}
+use Rattle.pf_edges.specs.Kept.{mesh_of}
+use Rattle.pf_rules.specs.Change.{CanApply, IsChange}
+use Rattle.pf_apply.specs.Operations.{AreParts}
 use Rattle.pf_mesh.proofs.MeshLemmas.{same-mesh}
-use Rattle.pf_mesh.proofs.OperationLemmas.{parts-after, kept-after}
+use Rattle.pf_apply.proofs.OperationLemmas.{parts-after, kept-after}
 use Rattle.pf_mesh.proofs.mesh.Mesh.apply_spare.Goals as goal
+use Rattle.pf_model.specs.Sums.{euler_of}
+use Rattle.pf_cover_model.specs.Alike.{CoversAlike, KeepsFans}
+use Rattle.pf_cover_model.proofs.Covers.{applied_cover}
+use Rattle.pf_cover_model.proofs.Eulers.{applied_euler}
+use Rattle.pf_cover_model.proofs.FanKeeps.{applied_fans}
 
 -- the mesh before
 abbrev before : (c : goal.After-perform_within) → Undivided
@@ -57,3 +63,16 @@ pub returns-clause-area : goal.returns-clause-area
 returns-clause-area c =
     let e = c.args.e.now in
     ap area2_of (returns-clause-applied c) ∙ applied_area c.args.self.now.mesh e.chunk e.ticket e.op c.first_new.ensures.conforming c.requires.fresh c.requires.passes
+
+pub returns-clause-cover : goal.returns-clause-cover
+returns-clause-cover c =
+    let P : Undivided → Type 0 = λ m. CoversAlike c.args.self.now.mesh m in
+    subst P (sym (returns-clause-applied c)) (applied_cover c.args.self.now.mesh c.args.e.now c.first_new.ensures.conforming c.requires.fresh c.requires.passes)
+
+pub returns-clause-euler : goal.returns-clause-euler
+returns-clause-euler c = ap euler_of (returns-clause-applied c) ∙ applied_euler c.args.self.now.mesh c.args.e.now c.first_new.ensures.conforming c.requires.fresh c.requires.passes
+
+pub returns-clause-fans : goal.returns-clause-fans
+returns-clause-fans c =
+    let P : Undivided → Type 0 = λ m. KeepsFans c.args.self.now.mesh m in
+    subst P (sym (returns-clause-applied c)) (applied_fans c.args.self.now.mesh c.args.e.now c.first_new.ensures.conforming c.requires.fresh c.requires.passes)

@@ -1,10 +1,11 @@
 use Rattle.std.proofs.Common.{refl, sym, subst}
 use Rattle.pf_model.specs.Mesh.{Undivided}
 use Rattle.pf_model.specs.Applied.{op_applied}
-use Rattle.pf_mesh.specs.Mesh.{mesh_of}
-use Rattle.pf_mesh.specs.Operations.{CanApply, IsChange, AreParts}
+use Rattle.pf_edges.specs.Kept.{mesh_of}
+use Rattle.pf_rules.specs.Change.{CanApply, IsChange}
+use Rattle.pf_apply.specs.Operations.{AreParts}
 use Rattle.pf_mesh.proofs.MeshLemmas.{same-mesh}
-use Rattle.pf_mesh.proofs.OperationLemmas.{parts-roomier, kept-after}
+use Rattle.pf_apply.proofs.OperationLemmas.{parts-roomier, kept-after}
 use Rattle.pf_mesh.proofs.mesh.Mesh.perform.Goals as goal
 
 -- the mesh before

@@ -2,10 +2,10 @@ use Rattle.std.proofs.Common.{◌≡◌, ℕ, List, sym, subst, ◌∙◌, ap}
 use Rattle.std.specs.Option.{option_map}
 use Rattle.pf_model.specs.Mesh.{Undivided}
 use Rattle.pf_model.specs.Tables.{AreListed, with_tables_of}
-use Rattle.pf_mesh.specs.Mesh.{mesh_of, IsKept}
-use Rattle.pf_mesh.specs.Table.{side_at}
-use Rattle.pf_mesh.specs.Tables.{owned_side}
-use Rattle.pf_mesh.proofs.OwnersKept.{kept-owned, owned-by_table}
+use Rattle.pf_edges.specs.Kept.{mesh_of, IsKept}
+use Rattle.pf_edges.specs.Table.{side_at}
+use Rattle.pf_apply.specs.Tables.{owned_side}
+use Rattle.pf_apply.proofs.OwnersKept.{kept-owned, owned-by_table}
 use Rattle.pf_mesh.proofs.MeshLemmas.{same-mesh}
 use Rattle.pf_mesh.proofs.mesh.Mesh.with_tables.Goals as goal
 

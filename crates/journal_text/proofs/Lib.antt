@@ -1,0 +1,3 @@
+pub mod JournalReads
+pub mod ReadLemmas
+pub mod WriteLemmas

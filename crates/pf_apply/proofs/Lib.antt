@@ -1,0 +1,17 @@
+pub mod ListingLemmas
+pub mod MeshLemmas
+pub mod BuildLaw
+pub mod BuiltConforms
+pub mod BuildList
+pub mod SortedIs
+pub mod SitesListed
+pub mod BuildKept
+pub mod OperationLemmas
+pub mod OwnedSides
+pub mod OwnersKept
+pub mod BuiltListed
+pub mod SiteLemmas
+pub mod Relisted
+pub mod RunLemmas
+pub mod SitesCut
+pub mod RunEnds

@@ -1,0 +1,32 @@
+use Rattle.std.proofs.Common.{◌≡◌, ◌≢◌, ◌∙◌, List, sym, ap, subst, arith, length, ◌<◌, ◌≤◌}
+use Rattle.pf_model.specs.declared.Site.{Site}
+use Rattle.pf_apply.specs.Sites.{IsPlace}
+use Rattle.pf_apply.proofs.SiteLemmas.{without-past, without-other, without-found}
+use Rattle.pf_apply.proofs.sites.strike_site.Goals as goal
+
+pub returns-then-at-len-clause-struck : goal.returns-then-at-len-clause-struck
+returns-then-at-len-clause-struck c =
+    let ss = c.args.sites.now.items in
+    let value = c.deref.ensures.value in
+    let long : length c.deref.result.now ≡ length ss = ap length value in
+    let past : length ss ≤ c.place-at.result = (let a = c.if-at-len.true in let b = c.len.ensures in let d = c.deref.ensures.len in omega (arith, a, b, d, long)) in
+    let P : List Site → Type 0 = λ l. IsPlace c.args.n l c.place-at.result in
+    without-past c.args.n ss c.place-at.result (subst P value c.place-at.ensures) past
+
+pub returns-then-index-n-clause-struck : goal.returns-then-index-n-clause-struck
+returns-then-index-n-clause-struck c =
+    let ss = c.args.sites.now.items in
+    let value = c.deref.ensures.value in
+    let long : length c.deref.result.now ≡ length ss = ap length value in
+    let within : c.place-at.result < length ss = (let a = c.if-at-len.false in let b = c.len.ensures in let d = c.deref.ensures.len in omega (arith, a, b, d, long)) in
+    let P : List Site → Type 0 = λ l. IsPlace c.args.n l c.place-at.result in
+    let Q : Site → Type 0 = λ s. s.name ≢ c.args.n in
+    without-other c.args.n ss c.place-at.result c.index.result.now c.requires (subst P value c.place-at.ensures) within (subst Q c.index.ensures c.if-index-n.true)
+
+pub returns-clause-struck : goal.returns-clause-struck
+returns-clause-struck c =
+    let ss = c.args.sites.now.items in
+    let value = c.deref.ensures.value in
+    let long : length c.deref.result.now ≡ length ss = ap length value in
+    let within : c.place-at.result < length ss = (let a = c.if-at-len.false in let b = c.len.ensures in let d = c.deref.ensures.len in omega (arith, a, b, d, long)) in
+    c.remove.ensures.items ∙ without-found c.args.n ss c.place-at.result c.index.result.now c.requires within (ap (λ (s : Site). s.name) (sym c.index.ensures) ∙ c.if-index-n.false)

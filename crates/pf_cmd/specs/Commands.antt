@@ -1,0 +1,117 @@
+-- The commands: what each reads and writes, and what it may give of what it reads.
+use Rattle.std.specs.Prelude.{◌≡◌, ◌≢◌, ◌≤◌, ℕ, List, [], ◌∷◌, length, Result, Ok, Err, Option, Some, None}
+use Rattle.std.specs.Option.{option_map}
+use Rattle.pf_model.specs.declared.Entry.{Entry}
+use Rattle.pf_model.specs.declared.FirstRefusal.{FirstRefusal}
+use Rattle.pf_model.specs.Mesh.{Undivided}
+use Rattle.pf_model.specs.Replay.{replayed, first_refusal, IsLegal}
+use Rattle.pf_model.specs.Texts.{mesh_node_text, mesh_ele_text, replay_report, check_report}
+use Rattle.table_text.specs.Part.{part_text_of}
+use Rattle.pf_say.specs.declared.place.Place.{Place}
+use Rattle.pf_say.specs.declared.place.Place.TheVariants.{Node, Ele, Part, Size, Journal, OutNode, OutEle, OutPart}
+use Rattle.pf_say.specs.declared.stop.Stop.{Stop}
+use Rattle.pf_say.specs.declared.stop.Stop.TheVariants.{Operation}
+use Rattle.pf_say.specs.Place.{Stems, name_of}
+use Rattle.pf_cmd.specs.declared.words.Task.{Task}
+use Rattle.pf_cmd.specs.declared.words.Task.TheVariants.{Replay, Check}
+use Rattle.pf_cmd.specs.Input.{Held, ◌>>=◌, Numbered, Parted, numbered_in, entries_in, parted_in}
+use Rattle.pf_cmd.specs.Output.{NamedText, Given, written_to}
+
+-- a command: what is to be done, with which stems, and what coordinates are multiplied by
+pub record Command : Type 0 where
+  pub task : Task
+  pub stems : Stems
+  pub scale : ℕ
+
+-- the files that a command reads, in order
+abbrev pub reads_of : Task → List Place
+reads_of Replay = Node ∷ Ele ∷ Part ∷ Size ∷ Journal ∷ []
+reads_of Check = Node ∷ Ele ∷ Part ∷ []
+
+-- the files that it writes, in order
+abbrev pub writes_of : Task → List Place
+writes_of Replay = OutNode ∷ OutEle ∷ OutPart ∷ []
+writes_of Check = []
+
+-- the name is that of none of these files
+abbrev pub AreUnnamed : Stems → List Place → List ℕ → Type 0
+AreUnnamed stems [] name = Unit {0}
+AreUnnamed stems (place ∷ places) name = (name ≢ name_of stems place) × AreUnnamed stems places name
+
+-- the name is that of no file that the command writes
+abbrev pub IsUnnamed : Command → List ℕ → Type 0
+IsUnnamed command name = AreUnnamed command.stems (writes_of command.task) name
+
+-- the scale is from 1 to 1,048,576
+abbrev pub IsScaled : Command → Type 0
+IsScaled command = (1 ≤ command.scale) × (command.scale ≤ 1048576)
+
+-- what a replay works on: a mesh, the number of the first node in its files, and the journal
+pub record Journalled : Type 0 where
+  pub base : ℕ
+  pub mesh : Undivided
+  pub entries : List Entry
+
+-- why an entry isn't applied, as a reason to stop
+abbrev pub refusal_stop : FirstRefusal → Stop
+refusal_stop refusal = Operation refusal.ticket refusal.why
+
+-- an entry is refused, and this is the reason to stop
+abbrev pub IsRefused : Option FirstRefusal → Stop → Type 0
+IsRefused refusal stop = option_map refusal_stop refusal ≡ Some stop
+
+-- the entries, each of which passes on the replay of those before it, or the first that is refused
+abbrev pub passed : {A : Type 0} → Option FirstRefusal → A → Result A Stop
+passed None value = Ok value
+passed (Some refusal) value = Err (refusal_stop refusal)
+
+unfoldable pub journalled_in : ℕ → Held → Result Journalled Stop
+journalled_in scale files = do
+  read ← numbered_in scale files
+  entries ← entries_in read.mesh.first_new files
+  passed (first_refusal read.mesh entries) (record { base = read.base; mesh = read.mesh; entries = entries })
+
+-- what a command works on
+pub data Input : Type 0 where
+  -- a mesh and the journal that is replayed on it
+  to_replay : Journalled → Input
+  -- a mesh and its chunks
+  to_check : Parted → Input
+
+-- what a command works on, by its files as they are, or their first refusal in the order of reading
+abbrev pub task_input : Task → ℕ → Held → Result Input Stop
+task_input Replay scale files = do
+  input ← journalled_in scale files
+  Ok (to_replay input)
+task_input Check scale files = do
+  parted ← parted_in scale files
+  Ok (to_check parted)
+
+abbrev pub input_in : Command → Held → Result Input Stop
+input_in command files = task_input command.task command.scale files
+
+-- the texts of a mesh after so many operations, and what is said of it
+abbrev pub replay_texts : Stems → ℕ → Undivided → ℕ → Given
+replay_texts stems base mesh operations =
+    record {
+      writes =
+          written_to stems OutNode (mesh_node_text base mesh)
+          ∷ written_to stems OutEle (mesh_ele_text base mesh)
+          ∷ written_to stems OutPart (part_text_of mesh.tris)
+          ∷ [];
+      report = replay_report operations mesh;
+    }
+
+-- what a replay gives
+abbrev pub replay_given : Stems → Journalled → Given
+replay_given stems input = replay_texts stems input.base (replayed input.mesh input.entries) (length input.entries)
+
+-- what a check gives
+abbrev pub check_given : Parted → Given
+check_given parted = record { writes = []; report = check_report parted.parts.chunks parted.listed.mesh }
+
+-- what a command may give of what it works on: of a replay and of a check there is one such
+abbrev pub MayGive : Task → Stems → Input → Given → Type 0
+MayGive Replay stems (to_replay input) given = IsLegal input.mesh input.entries × (given ≡ replay_given stems input)
+MayGive Check stems (to_check parted) given = given ≡ check_given parted
+MayGive task stems input given = ⊥

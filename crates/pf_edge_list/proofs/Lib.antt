@@ -1,0 +1,3 @@
+pub mod SpanLemmas
+pub mod EdgeSpots
+pub mod EdgeSearch

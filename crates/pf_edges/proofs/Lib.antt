@@ -1,0 +1,4 @@
+pub mod Sides
+pub mod TableSteps
+pub mod Entries
+pub mod Exchanged

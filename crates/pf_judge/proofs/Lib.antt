@@ -1,0 +1,4 @@
+pub mod StarTurns
+pub mod SpokesShown
+pub mod StarFan
+pub mod NewEdges

@@ -1,0 +1,16 @@
+use Rattle.std.proofs.Common.{◌≡◌, ℕ, drop, filter, None}
+use Rattle.std.specs.Prelude.{fold}
+use Rattle.pf_model.specs.Mesh.{Undivided}
+use Rattle.pf_model.specs.Conforming.{IsConforming}
+use Rattle.pf_model.specs.Stars.{spokes_of}
+use Rattle.pf_model.specs.Rows.{lesser, least_that, is_too_long}
+use Rattle.pf_rules.specs.EdgeSides.{AreEdgeSides}
+use Rattle.pf_edges.specs.Table.{Shows}
+use Rattle.pf_rules.specs.Contract.{is_link_at}
+use Rattle.pf_judge.proofs.contract.least_long.Given as goal
+
+abbrev pub invariant-loop-x : goal.invariant-loop-x
+invariant-loop-x l =
+    (m : Undivided) (u : ℕ) → IsConforming m → Shows l.table.sides l.table.nodes.items m → m.bands ≡ l.bands → AreEdgeSides m.tris u l.v l.edge_sides
+    → least_that (is_link_at m u l.v (spokes_of m l.v)) l.names ≡ None
+    → fold lesser l.least (filter (is_too_long m l.v (spokes_of m l.v)) (drop l.x-index l.names)) ≡ least_that (is_too_long m l.v (spokes_of m l.v)) l.names

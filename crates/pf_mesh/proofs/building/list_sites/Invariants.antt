@@ -1,6 +1,0 @@
-use Rattle.std.proofs.Common.{◌≡◌, ◌++◌, drop}
-use Rattle.pf_mesh.specs.BuildSteps.{live_sites}
-use Rattle.pf_mesh.proofs.building.list_sites.Given as goal
-
-abbrev pub invariant-loop-node : goal.invariant-loop-node
-invariant-loop-node l = (l.name ≡ l.node-index) × (l.sites.items ++ live_sites l.node-index (drop l.node-index l.nodes) ≡ live_sites 0 l.nodes)

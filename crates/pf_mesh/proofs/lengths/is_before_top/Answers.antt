@@ -1,6 +1,0 @@
-use Rattle.std.proofs.Common.{rules}
-use Rattle.pf_mesh.proofs.Signed.{summed, doubled, both_le}
-use Rattle.pf_mesh.proofs.lengths.is_before_top.Goals as goal
-
-pub returns : goal.returns
-returns c = both_le _ _ _ _ (summed c.args.a.y c.args.b.y _ _ (search rules) (search rules) c.from.ensures c.from-2.ensures) (doubled c.args.row.now.yhi _ (search rules) c.from-3.ensures)

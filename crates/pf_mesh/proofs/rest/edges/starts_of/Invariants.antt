@@ -1,8 +1,0 @@
-use Rattle.std.proofs.Common.{◌≡◌, length}
-use Rattle.pf_mesh.specs.Rest.{AreRising, AreStarts, IsBelow}
-use Rattle.pf_mesh.proofs.rest.edges.starts_of.Given as goal
-
-abbrev pub invariant-loop-name : goal.invariant-loop-name
-invariant-loop-name l =
-    (length l.starts.items ≡ l.name)
-    × (AreRising l.edges → IsBelow l.edges l.name l.place × AreStarts l.edges l.starts.items)

@@ -1,8 +1,0 @@
-use Rattle.std.proofs.Common.{◌≡◌, ℕ, ◌<◌, true, get_or}
-use Rattle.pf_mesh.specs.Rest.{is_reached}
-use Rattle.pf_mesh.specs.Table.{place_or_origin}
-use Rattle.pf_mesh.proofs.table.EdgeTable.are_close.Given as goal
-
--- each node that was looked at is close
-abbrev pub invariant-loop-x : goal.invariant-loop-x
-invariant-loop-x l = (k d : ℕ) → k < l.x-index → is_reached l.at (place_or_origin l.self.nodes.items (get_or l.names k d)) l.limit ≡ true

@@ -1,0 +1,8 @@
+pub mod WalkSteps
+pub mod WalkEnds
+pub mod FlipAlone
+pub mod WalkSpots
+pub mod ToldNotes
+pub mod Near
+pub mod Uncrossed
+pub mod StarAround

@@ -1,0 +1,14 @@
+pub mod Replaced
+pub mod FlipExchange
+pub mod Measures
+pub mod StarLists
+pub mod StarSpokes
+pub mod StarSpots
+pub mod Signed
+pub mod ContractReads
+pub mod Least
+pub mod ContractExchange
+pub mod BisectExchange
+pub mod Changes
+pub mod Names
+pub mod Firsts

@@ -1,0 +1,5 @@
+pub mod EdgeSides
+pub mod Star
+pub mod Contract
+pub mod Lengths
+pub mod Change

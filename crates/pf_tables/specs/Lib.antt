@@ -1,6 +1,0 @@
-pub mod Steps
-pub mod Part
-pub mod Size
-pub mod RowWords
-pub mod Kept
-pub mod Laws

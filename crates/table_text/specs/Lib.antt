@@ -1,0 +1,5 @@
+pub mod Part
+pub mod Size
+pub mod RowWords
+pub mod Kept
+pub mod Laws

@@ -1,5 +1,0 @@
-use Rattle.tri_files.proofs.Again.{nodes_again}
-use Rattle.tri_files.proofs.laws.written_nodes_are_read_again.Goals as goal
-
-pub returns : goal.returns
-returns c = nodes_again

@@ -1,5 +1,0 @@
-use Rattle.tri_files.proofs.ReadNode.{VerticesStand}
-use Rattle.tri_files.proofs.node.vertices.Given as goal
-
-abbrev pub invariant-loop-place : goal.invariant-loop-place
-invariant-loop-place l = VerticesStand l.scale l.fn.lines.past l.count l.fn.lines.left l.lines.left l.lines.past l.place l.base l.points.items

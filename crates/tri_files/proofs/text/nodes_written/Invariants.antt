@@ -1,7 +1,0 @@
-use Rattle.std.proofs.Common.{map}
-use Rattle.pf_model.specs.Texts.{node_text}
-use Rattle.tri_files.proofs.WriteRows.{NodesLeft}
-use Rattle.tri_files.proofs.text.nodes_written.Given as goal
-
-abbrev pub invariant-loop-place : goal.invariant-loop-place
-invariant-loop-place l = NodesLeft l.out.items l.base l.place l.sites (node_text l.base (map (λ s. s.at) l.sites))

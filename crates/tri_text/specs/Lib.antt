@@ -1,0 +1,4 @@
+pub mod Reading
+pub mod Node
+pub mod Ele
+pub mod Laws
