@@ -16,6 +16,15 @@ pub(super) fn cover_at<R: Abort + AllocGlobal>(rt: &R, m: &Mesh, x: i32, y: i32,
 // The kite with a third triangle, which lies over it.
 const OVER: [[u32; 3]; 3] = [[0, 1, 2], [1, 0, 3], [2, 3, 4]];
 
+// A dart, and a node inside it near the reflex corner.
+const DART: [Point; 5] = [
+    Point { x: 4, y: 3 },
+    Point { x: 0, y: 0 },
+    Point { x: 4, y: 1 },
+    Point { x: 8, y: 0 },
+    Point { x: 4, y: 8 },
+];
+
 #[test]
 fn covers_the_square_once(rt: HostRuntime) -> Result<(), Fail> {
     let mut mesh = opened(rt.alloc(), &SQUARE, &[[0, 1, 2], [0, 2, 3]])?;
@@ -73,9 +82,8 @@ fn contractions_keep_the_euler_number(rt: HostRuntime) -> Result<(), Fail> {
     assert_eq!(rt; euler(rt.alloc(), &mesh)?, 1);
     assert!(rt; apply(&mut mesh, 0, Op::Contract { u: 1, v: 0 }).is_ok());
     assert_eq!(rt; euler(rt.alloc(), &mesh)?, 1);
-    let dart = [(4, 3), (0, 0), (4, 1), (8, 0), (4, 8)].map(|(x, y)| Point { x, y });
     let tris = [[0, 1, 2], [0, 2, 3], [0, 3, 4], [0, 4, 1]];
-    let mut mesh = opened(rt.alloc(), &dart, &tris)?;
+    let mut mesh = opened(rt.alloc(), &DART, &tris)?;
     assert_eq!(rt; euler(rt.alloc(), &mesh)?, 1);
     assert!(rt; apply(&mut mesh, 0, Op::Contract { u: 0, v: 2 }).is_ok());
     assert_eq!(rt; euler(rt.alloc(), &mesh)?, 1);

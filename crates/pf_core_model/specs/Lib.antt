@@ -1,0 +1,17 @@
+pub mod Lists
+pub mod Cavity
+pub mod Sharers
+pub mod Moves
+pub mod Core
+pub mod Needs
+pub mod History
+pub mod Same
+pub mod State
+pub mod Shown
+pub mod Laws
+pub mod Guards
+pub mod Seats
+pub mod Right
+pub mod Lives
+pub mod Slots
+pub mod Closing

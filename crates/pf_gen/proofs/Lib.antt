@@ -1,0 +1,5 @@
+mod Ranges
+mod Corners
+mod EdgesApart
+mod Faults
+mod Fits

@@ -1,0 +1,2 @@
+mod ByOwner
+mod Spreading

@@ -1,0 +1,30 @@
+use Rattle.std.proofs.Common.{◌≡◌, ◌∙◌, sym, ap, arith, ◌<◌, ◌+◌, ◌-◌, ◌++◌, ◌∷◌, [], List, rules}
+use Rattle.std.specs.Prelude.{Some}
+use Rattle.pf_model.specs.declared.Spoke.{Spoke}
+use Rattle.pf_model.specs.Conditions.{least_that}
+use Rattle.pf_model.specs.Stars.{Star}
+use Rattle.pf_core_model.specs.declared.sharer.Sharer.{Sharer}
+use Rattle.pf_core_model.specs.Sharers.{sharers_from}
+use Rattle.pf_ghost.proofs.ByOwner.{owners, from, last_owner, past_owner, one_owner, next_from}
+use Rattle.pf_ghost.proofs.sharers.copies_for.Goals as goal
+
+pub returns-in_default : goal.returns-in_default
+returns-in_default c =
+    last_owner c.owners.first c.args.chunks c.args.star.now c.owners.list.items (sym (c.owner_from.ensures ∙ ap (λ (l : List Spoke). least_that (from c.owners.first) (owners l)) c.spokes.ensures.value) ∙ c.in_default.is) c.owners.invariant.1
+
+pub returns-then-chunk-chunks : goal.returns-then-chunk-chunks
+returns-then-chunk-chunks c =
+    past_owner c.owners.first c.in-Some.chunk c.args.chunks c.args.star.now c.owners.list.items (sym (c.owner_from.ensures ∙ ap (λ (l : List Spoke). least_that (from c.owners.first) (owners l)) c.spokes.ensures.value) ∙ c.in-Some.is) c.if-chunk-chunks.true c.owners.invariant.1
+
+pub owners-smaller : goal.owners-smaller
+owners-smaller c =
+    let next = next_from c.owners.first c.in-Some.chunk c.args.star.now.spokes (sym (c.owner_from.ensures ∙ ap (λ (l : List Spoke). least_that (from c.owners.first) (owners l)) c.spokes.ensures.value) ∙ c.in-Some.is) in
+    omega (arith, c.if-chunk-chunks.false, c.owners-test.true)
+
+pub owners-preserved : goal.owners-preserved
+owners-preserved c =
+    let low : c.in-Some.chunk < c.args.chunks = omega (arith, c.if-chunk-chunks.false) in
+    let more = one_owner c.owners.first c.in-Some.chunk c.args.chunks c.args.star.now c.owners.list.items (sym (c.owner_from.ensures ∙ ap (λ (l : List Spoke). least_that (from c.owners.first) (owners l)) c.spokes.ensures.value) ∙ c.in-Some.is) low c.owners.invariant.1 in
+    let copy : c.in_ok-copy.copy ≡ c.args.star.now = c.in_ok-copy.ensures in
+    let pushed : c.push.new.self.items ≡ c.owners.list.items ++ record { chunk = c.in-Some.chunk; star = c.in_ok-copy.copy } ∷ [] = search rules in
+    (omega (arith, low), ap (λ (l : List Sharer). l ++ sharers_from (c.in-Some.chunk + 1) (c.args.chunks - (c.in-Some.chunk + 1)) (Some c.args.star.now)) (pushed ∙ ap (λ (s : Star). c.owners.list.items ++ record { chunk = c.in-Some.chunk; star = s } ∷ []) copy) ∙ more)

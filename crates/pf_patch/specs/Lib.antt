@@ -1,0 +1,3 @@
+pub mod Tris
+pub mod Plans
+pub mod Made

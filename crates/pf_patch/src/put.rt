@@ -1,0 +1,84 @@
+//! The spokes of a node after some triangles gave way to others.
+ghost use Rattle.std.specs.Prelude.{◌≡◌, ◌≤◌, [], All, IfOk, OnOk, insert, length, filter, not, filter_map};
+ghost use Rattle.pf_model.specs.Rising.{insert_by, insert_all_by};
+ghost use Rattle.pf_model.specs.Stars.{spoke_lt};
+ghost use Rattle.pf_patch.specs.Tris.{HasCorners, spoke_in, gone_from, spokes_with};
+
+use crate::tris::{Gone, NewTri, has_name, spoke_at};
+use pf_geom::NoMemory;
+use pf_model::Spoke;
+use std::alloc::Global;
+
+// Where the spoke belongs among these, by right.
+fn place_of_spoke(spokes: &[Spoke], spoke: Spoke) -> usize
+    ensures within { result ≤ length spokes.now }
+    ensures place { insert spokes.now result spoke ≡ insert_by spoke_lt spoke spokes.now }
+{
+    for (i, s) in spokes.iter().enumerate() {
+        if spoke.right < s.right {
+            return i;
+        }
+    }
+    spokes.len()
+}
+
+// Puts a spoke among these, by right.
+fn put_spoke(spokes: &mut Vec<Spoke>, spoke: Spoke) -> Result<(), NoMemory>
+    ensures { OnOk result (spokes.new.items ≡ insert_by spoke_lt spoke spokes.old.items) }
+{
+    let at = place_of_spoke(spokes, spoke);
+    spokes.insert(at, spoke).map_err(|_| NoMemory)?;
+    Ok(())
+}
+
+// How many spokes of `n` there are after: those that stay, and those that come.
+fn count_after(gone: Gone, n: u32, spokes: &[Spoke], added: &[NewTri]) -> usize {
+    let stay = spokes.iter().filter(|s| !gone.has(n, s)).count();
+    let come = added.iter().filter(|t| has_name(t, n)).count();
+    stay.saturating_add(come)
+}
+
+// Adds the spokes of `n` that stay to an empty list.
+fn keep(list: &mut Vec<Spoke>, gone: Gone, n: u32, spokes: &[Spoke]) -> Result<(), NoMemory>
+    requires { list.old.items ≡ [] }
+    ensures { OnOk result (list.new.items ≡ filter (λ s. not (gone_from gone n s)) spokes.now) }
+{
+    for s in spokes {
+        if !gone.has(n, s) {
+            list.push(*s).map_err(|_| NoMemory)?;
+        }
+    }
+    Ok(())
+}
+
+// Puts the spoke of `n` in each of these triangles among the spokes, from the last triangle to the first.
+fn put_all(spokes: &mut Vec<Spoke>, n: u32, added: &[NewTri]) -> Result<(), NoMemory>
+    requires { All HasCorners added.now }
+    ensures { OnOk result (spokes.new.items ≡ insert_all_by spoke_lt (filter_map (spoke_in n) added.now) spokes.old.items) }
+{
+    for k in 0..added.len() {
+        let t = added[added.len() - 1 - k];
+        if let Some(spoke) = spoke_at(t, n) {
+            put_spoke(spokes, spoke)?;
+        }
+    }
+    Ok(())
+}
+
+/// The spokes of `n` after some of its triangles gave way to these, in a list with room for exactly as many.
+pub fn spokes_after(
+    alloc: Global,
+    gone: Gone,
+    n: u32,
+    spokes: &[Spoke],
+    added: &[NewTri],
+) -> Result<Vec<Spoke>, NoMemory>
+    requires { All HasCorners added.now }
+    ensures { IfOk result (λ v. v.items ≡ spokes_with gone added.now n spokes.now) }
+{
+    let room = count_after(gone, n, spokes, added);
+    let mut list = Vec::with_capacity(alloc, room).map_err(|_| NoMemory)?;
+    keep(&mut list, gone, n, spokes)?;
+    put_all(&mut list, n, added)?;
+    Ok(list)
+}

@@ -1,0 +1,4 @@
+pub mod Runs
+pub mod Least
+pub mod Renamed
+pub mod Lent

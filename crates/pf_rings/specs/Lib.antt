@@ -1,0 +1,4 @@
+pub mod Points
+pub mod Least
+pub mod Runs
+pub mod Lending

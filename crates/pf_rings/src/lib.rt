@@ -1,0 +1,17 @@
+//! Stars as they are held and lent: the triangles at a node, with their points.
+//!
+//! A worker that holds the stars of a few nodes lends them as rings, without copying. What is judged,
+//! needed and made from them stands in the crates above. A star may have any number of spokes.
+#![tactic(auto)]
+
+mod fan;
+mod rename;
+mod ring;
+mod spokes;
+mod star;
+
+pub use fan::{first_right, is_fan, last_left};
+pub use rename::{rename_spokes, renamed_name};
+pub use ring::{Ring, Rings};
+pub use spokes::{has_owner, is_near, least_after, least_owner, lesser_of, spoke_from, spoke_to};
+pub use star::{NewStar, Star};
