@@ -78,6 +78,6 @@ remove-without t (s ∷ ts) (suc j) once different l e =
 pub rising-fit : (t : Tri) (ts : List Tri) → IsRising tri_lt ts → SharesNoEdge t ts → IsRising tri_lt (insert_by tri_lt t ts)
 rising-fit t ts up f = rising-insert_by tri_lt tri_lt-order t ts (λ z h. tri_lt-apart t z (f z t.a t.b h (has_edge-first t))) up
 
-pub rising-without_all : (gone ts : List Tri) → IsRising tri_lt ts → IsRising tri_lt (without_all gone ts)
+pub rising-without_all : (removed ts : List Tri) → IsRising tri_lt ts → IsRising tri_lt (without_all removed ts)
 rising-without_all [] ts up = up
 rising-without_all (g ∷ gs) ts up = rising-without_all gs (without g ts) (rising-filter tri_lt (λ t. not (has_edge g.a g.b t)) ts up)

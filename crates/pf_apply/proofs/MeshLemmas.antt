@@ -87,8 +87,8 @@ shows-from sides nodes m ok s places = record { triangles = s; sites = λ n. go 
     go n (Some p) e = ap (λ b. cond b (Some (place_at nodes n)) None) (test n ∙ ap is_some e) ∙ ap (λ x. Some x) (places n p e)
 
 -- the places of a mesh's live names
-pub shown-place : (sides : Sides) (nodes : List Node) (m : Undivided) → Shows sides nodes m → (n : ℕ) (p : Point) → point_of m.sites n ≡ Some p → place_at nodes n ≡ p
-shown-place sides nodes m s n p e = (some-site nodes n p (s.sites n ∙ e)).1
+pub shown-point : (sides : Sides) (nodes : List Node) (m : Undivided) → Shows sides nodes m → (n : ℕ) (p : Point) → point_of m.sites n ≡ Some p → place_at nodes n ≡ p
+shown-point sides nodes m s n p e = (some-site nodes n p (s.sites n ∙ e)).1
 
 -- a table with the same entries and nodes shows the same
 pub shows-unchanged : (sides new : Sides) (nodes after : List Node) (ts : List Tri) → IsUnchanged sides new → after ≡ nodes → ShowsTriangles sides nodes ts → ShowsTriangles new after ts

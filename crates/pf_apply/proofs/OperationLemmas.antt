@@ -17,12 +17,12 @@ use Rattle.pf_model.proofs.SitesLess.{without_name, point_of-without, point_of-g
 use Rattle.pf_model.proofs.ReadClauses.{bisect_passes}
 use Rattle.pf_model.proofs.ReplayKeeps.{applied_conforms}
 use Rattle.pf_edges.specs.declared.table.Node.{Node}
-use Rattle.pf_edges.specs.Table.{Sides, place_at, triangles_at, place_or_origin, AreInRange, ShowsTriangles, HasSamePlaces}
+use Rattle.pf_edges.specs.Table.{Sides, place_at, triangles_at, point_or_origin, AreInRange, ShowsTriangles, HasSamePlaces}
 use Rattle.pf_edges.specs.Kept.{IsKept, mesh_of}
 use Rattle.pf_apply.specs.Sites.{sites_after}
 use Rattle.pf_rules.specs.Change.{CanApply}
 use Rattle.pf_apply.specs.Operations.{AreParts, HasPlaces}
-use Rattle.pf_apply.proofs.MeshLemmas.{live-within, shown-place, shows-from, kept-unchanged}
+use Rattle.pf_apply.proofs.MeshLemmas.{live-within, shown-point, shows-from, kept-unchanged}
 
 -- the new name isn't live
 pub new_not_live : (m : Undivided) (n : ℕ) (op : Op) → CanApply m n op → point_of m.sites n ≡ None
@@ -46,7 +46,7 @@ keeps-stood sides nodes after m n k none counts others range =
 
 -- the places of the mesh itself
 pub places-kept : (sides : Sides) (nodes : List Node) (m : Undivided) → IsKept sides nodes m → HasPlaces nodes m
-places-kept sides nodes m k = record { within = live-within sides nodes m k.shows; places = shown-place sides nodes m k.shows }
+places-kept sides nodes m k = record { within = live-within sides nodes m k.shows; places = shown-point sides nodes m k.shows }
 
 -- they stay where another name is moved
 pub places-moved : (nodes after : List Node) (m : Undivided) (n : ℕ) → HasPlaces nodes m → point_of m.sites n ≡ None → length nodes ≤ length after → ((k : ℕ) → n ≢ k → place_at after k ≡ place_at nodes k) → HasPlaces after m
@@ -126,7 +126,7 @@ new-place m n mid none = point_of-past m.sites (record { name = n; at = mid } �
     itself k = grind (arith, nat_tests)
 
 -- the sites after, by where the table has the new node
-pub sites-applied : (sides : Sides) (nodes : List Node) (m : Undivided) (n : ℕ) (op : Op) → (can : CanApply m n op) → IsKept sides nodes (op_applied m can.ticket op) → sites_after m.sites n (place_or_origin nodes n) op ≡ (op_applied m can.ticket op).sites
+pub sites-applied : (sides : Sides) (nodes : List Node) (m : Undivided) (n : ℕ) (op : Op) → (can : CanApply m n op) → IsKept sides nodes (op_applied m can.ticket op) → sites_after m.sites n (point_or_origin nodes n) op ≡ (op_applied m can.ticket op).sites
 sites-applied sides nodes m n (Flip a b) can k = refl
 sites-applied sides nodes m n (Contract u v) can k = refl
 sites-applied sides nodes m n (Bisect a b) can k =
@@ -135,7 +135,7 @@ sites-applied sides nodes m n (Bisect a b) can k =
     ap (λ (i : ℕ). m.sites ++ record { name = i; at = x.0 } ∷ []) (sym can.name) ∙ ap (λ (o : Option Point). m.sites ++ new_site (m.first_new + can.ticket) o) (sym x.1.middle)
     in
     let found : point_of (op_applied m can.ticket (Bisect a b)).sites n ≡ Some x.0 = subst (λ ss. point_of ss n ≡ Some x.0) same (new-place m n x.0 (new_not_live m n (Bisect a b) can)) in
-    let at : place_or_origin nodes n ≡ x.0 = ap (λ o. unwrap_or o record { x = pos 0; y = pos 0 }) (k.shows.sites n ∙ found) in
+    let at : point_or_origin nodes n ≡ x.0 = ap (λ o. unwrap_or o record { x = pos 0; y = pos 0 }) (k.shows.sites n ∙ found) in
     ap (λ (p : Point). m.sites ++ record { name = n; at = p } ∷ []) at ∙ same
 
 -- a mesh with the sites and triangles after an operation is the mesh after it

@@ -1,12 +1,11 @@
 -- A run of entries over the edge table: the mesh after each entry, and that there is room to list it.
-use Rattle.std.proofs.Common.{◌≡◌, ℕ, suc, ◌+◌, ◌<◌, ◌≤◌, List, [], ◌∷◌, ◌++◌, length, take, drop, get_or, add-one, refl, sym, ◌∙◌, ap, subst, Bool, true, false, cond, arith, Option, Some, None, is_some}
+use Rattle.std.proofs.Common.{◌≡◌, ℕ, suc, ◌+◌, ◌<◌, ◌≤◌, List, [], ◌∷◌, length, take, drop, get_or, add-one, refl, sym, ◌∙◌, ap, subst, Bool, true, false, cond, arith, None, is_some}
 use Rattle.std.specs.Prelude.{Contains, nat_lt, not}
 use Rattle.std.proofs.lemmas.Bool.Decides.{nat_tests}
 use Rattle.std.proofs.lemmas.List.{take_more, drop_more, get_or_default}
 use Rattle.pf_model.specs.declared.Site.{Site}
 use Rattle.pf_model.specs.declared.Tri.{Tri}
 use Rattle.pf_model.specs.declared.Band.{Band}
-use Rattle.pf_model.specs.declared.Cond.{Cond}
 use Rattle.pf_model.specs.declared.Op.{Op}
 use Rattle.pf_model.specs.declared.Op.TheVariants.{Flip, Bisect, Contract}
 use Rattle.pf_model.specs.declared.Entry.{Entry}
@@ -93,23 +92,23 @@ without-length g (t ∷ ts) = go (has_edge g.a g.b t) (without-length g ts)
     go true ih = omega (arith, ih)
     go false ih = omega (arith, ih)
 
-without_all-length : (gone ts : List Tri) → length (without_all gone ts) ≤ length ts
+without_all-length : (removed ts : List Tri) → length (without_all removed ts) ≤ length ts
 without_all-length [] ts = omega arith
-without_all-length (g ∷ gone) ts = let a = without_all-length gone (without g ts) in let b = without-length g ts in omega (arith, a, b)
+without_all-length (g ∷ removed) ts = let a = without_all-length removed (without g ts) in let b = without-length g ts in omega (arith, a, b)
 
-exchanged-length : (gone new ts : List Tri) → length (exchanged gone new ts) ≤ length new + length ts
-exchanged-length gone new ts = let a = all-inserted-length new (without_all gone ts) in let b = without_all-length gone ts in omega (arith, a, b)
+exchanged-length : (removed new ts : List Tri) → length (exchanged removed new ts) ≤ length new + length ts
+exchanged-length removed new ts = let a = all-inserted-length new (without_all removed ts) in let b = without_all-length removed ts in omega (arith, a, b)
 
 -- what is reached after an entry
-pub reached-more : (sides new : Sides) (nodes after : List Node) (bands : List Band) (first_new site_room tri_room site_room' tri_room' : ℕ) (m : Undivided) (e : Entry) (gone came : List Tri) → IsReached sides nodes bands first_new e.ticket site_room tri_room m → refusal_of m e ≡ None → IsKept new after (applied m e) → exchanged gone came m.tris ≡ (applied m e).tris → length came ≤ 60 → first_new + e.ticket + 1 ≤ site_room' → length m.tris + 60 ≤ tri_room' → IsReached new after bands first_new (e.ticket + 1) site_room' tri_room' (applied m e)
-reached-more sides new nodes after bands first_new site_room tri_room site_room' tri_room' m e gone came r passes kept tris few sites_fit tris_fit =
+pub reached-more : (sides new : Sides) (nodes after : List Node) (bands : List Band) (first_new site_room tri_room site_room' tri_room' : ℕ) (m : Undivided) (e : Entry) (removed came : List Tri) → IsReached sides nodes bands first_new e.ticket site_room tri_room m → refusal_of m e ≡ None → IsKept new after (applied m e) → exchanged removed came m.tris ≡ (applied m e).tris → length came ≤ 60 → first_new + e.ticket + 1 ≤ site_room' → length m.tris + 60 ≤ tri_room' → IsReached new after bands first_new (e.ticket + 1) site_room' tri_room' (applied m e)
+reached-more sides new nodes after bands first_new site_room tri_room site_room' tri_room' m e removed came r passes kept tris few sites_fit tris_fit =
     record {
       kept = kept;
       bands_are = bands-after m e.ticket e.op ∙ r.bands_are;
       first = first;
       fresh = fresh;
       sites_fit = (let a = sites-few (applied m e) ((applied m e).first_new + (e.ticket + 1)) kept.conforming fresh in omega (arith, first, sites_fit));
-      tris_fit = (let a = ap length tris in let b = exchanged-length gone came m.tris in omega (arith, a, b, few, tris_fit));
+      tris_fit = (let a = ap length tris in let b = exchanged-length removed came m.tris in omega (arith, a, b, few, tris_fit));
     }
   where
     first : (applied m e).first_new ≡ first_new

@@ -12,11 +12,11 @@ use Rattle.pf_edges.specs.Kept.{IsKept}
 use Rattle.pf_rules.specs.Change.{CanApply, IsChange}
 
 -- the table shows a mesh to which the operation can be applied, which makes the second list of the first
-pub record ShowsApplicable (sides : Sides) (nodes : List Node) (n : ℕ) (op : Op) (gone new : List Tri) : Type 0 where
+pub record ShowsApplicable (sides : Sides) (nodes : List Node) (n : ℕ) (op : Op) (removed new : List Tri) : Type 0 where
   pub mesh : Undivided
   pub kept : IsKept sides nodes mesh
   pub can : CanApply mesh n op
-  pub change : IsChange mesh n op gone new
+  pub change : IsChange mesh n op removed new
 
 -- the table and the lists are those of this mesh
 pub record AreParts (sides : Sides) (nodes : List Node) (sites : List Site) (tris : List Tri) (m : Undivided) : Type 0 where
@@ -25,11 +25,11 @@ pub record AreParts (sides : Sides) (nodes : List Node) (sites : List Site) (tri
   pub tris_are : tris ≡ m.tris
 
 -- they are those of a mesh to which the operation can be applied, which makes the second list of the first
-pub record CanPerform (sides : Sides) (nodes : List Node) (sites : List Site) (tris : List Tri) (n : ℕ) (op : Op) (gone new : List Tri) : Type 0 where
+pub record CanPerform (sides : Sides) (nodes : List Node) (sites : List Site) (tris : List Tri) (n : ℕ) (op : Op) (removed new : List Tri) : Type 0 where
   pub mesh : Undivided
   pub parts : AreParts sides nodes sites tris mesh
   pub can : CanApply mesh n op
-  pub change : IsChange mesh n op gone new
+  pub change : IsChange mesh n op removed new
 
 -- the live names of the mesh are names of the table, and stand where the mesh has them
 pub record HasPlaces (nodes : List Node) (m : Undivided) : Type 0 where

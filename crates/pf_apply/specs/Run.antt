@@ -1,5 +1,5 @@
 -- A run of entries over the edge table, and where it stops.
-use Rattle.std.specs.Prelude.{◌≡◌, ◌≢◌, ℕ, ◌<◌, ◌≤◌, List, Option, Some, None, length, take, slice_index_or}
+use Rattle.std.specs.Prelude.{◌≡◌, ◌≢◌, ℕ, ◌<◌, ◌≤◌, List, Some, None, length, take, slice_index_or}
 use Rattle.std.specs.Option.{option_map}
 use Rattle.pf_model.specs.declared.Band.{Band}
 use Rattle.pf_model.specs.declared.Entry.{Entry}

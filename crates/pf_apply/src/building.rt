@@ -8,13 +8,14 @@ ghost use Rattle.pf_model.specs.Mesh.{tri_lt};
 ghost use Rattle.pf_model.specs.Rising.{sorted_by};
 ghost use Rattle.pf_model.specs.Exchange.{AreSound};
 ghost use Rattle.pf_model.specs.Build.{turned_left, build_clauses, first_fault, default_band};
+ghost use Rattle.pf_model.specs.Limits.{most_triangles};
 ghost use Rattle.pf_apply.specs.BuildSteps.{twice_of, earlier_from, live_sites, AreEntered, ArePart};
 ghost use Rattle.pf_edges.specs.Table.{IsEmptyTable, ShowsTriangles, HasSamePlaces};
 
 use pf_edges::table::{EdgeTable, Node};
 use pf_geom::{NoMemory, Point, Turn, turn_of};
 use pf_model::{Band, BuildErr, Site, Tri};
-use pf_rules::change::turned;
+use pf_rules::change::least_first;
 use std::alloc::Global;
 
 // The first directed edge of the triangle that is in the table already.
@@ -58,9 +59,9 @@ fn checked(
         return Err(BuildErr::BadNode { tri, node: c });
     }
     let t = match turn_of(points[a as usize], points[b as usize], points[c as usize]) {
-        Turn::Left => turned(a, b, c, 0),
+        Turn::Left => least_first(a, b, c, 0),
         Turn::Flat => return Err(BuildErr::Flat { tri }),
-        Turn::Right => turned(a, c, b, 0),
+        Turn::Right => least_first(a, c, b, 0),
     };
     match edge_twice(table, t) {
         Some(fault) => Err(fault),
@@ -94,7 +95,7 @@ pub fn enter_triangles(
 ) -> Result<(), BuildErr>
     requires in_range { All IsInRange points.now }
     requires empty { IsEmptyTable table.old.sides table.old.nodes.items points.now }
-    requires few { length tris.now ≤ 2097152 }
+    requires few { length tris.now ≤ most_triangles }
     requires room { 3 * length tris.now ≤ spare table.old.sides }
     requires none { listed.old.items ≡ [] }
     requires capacity { length tris.now ≤ vec_capacity listed.old }
@@ -141,18 +142,24 @@ pub fn list_sites(alloc: Global, nodes: &[Node]) -> Result<Vec<Site>, NoMemory>
     Ok(sites)
 }
 
+// The greatest magnitude of a coordinate.
+const FARTHEST: i32 = 268_435_456;
+
+// A squared length above that of every edge within these coordinates.
+const LONGEST: i64 = 1_152_921_504_606_846_976;
+
 /// The table of sizes where none is given: every length is allowed.
 pub fn default_bands(alloc: Global) -> Result<Vec<Band>, NoMemory>
     ensures { IfOk result (λ bands. bands.items ≡ default_band ∷ []) }
 {
     let mut bands = Vec::new(alloc);
     let band = Band {
-        xlo: -268_435_456,
-        ylo: -268_435_456,
-        xhi: 268_435_456,
-        yhi: 268_435_456,
+        xlo: -FARTHEST,
+        ylo: -FARTHEST,
+        xhi: FARTHEST,
+        yhi: FARTHEST,
         min2: 0,
-        max2: 1_152_921_504_606_846_976,
+        max2: LONGEST,
     };
     if bands.push(band).is_err() {
         return Err(NoMemory);

@@ -33,11 +33,11 @@ fn rank(tris: &[Tri], t: Tri) -> usize
 }
 
 // Takes a triangle out of the list.
-fn strike_listed(tris: &mut Vec<Tri>, t: Tri)
+fn remove_listed(tris: &mut Vec<Tri>, t: Tri)
     requires rising { IsRising tri_lt tris.old.items }
     requires sound { AreSound tris.old.items }
     requires there { Contains tris.old.items t }
-    ensures struck { tris.new.items ≡ without t tris.old.items }
+    ensures removed { tris.new.items ≡ without t tris.old.items }
     ensures len { vec_len tris.new + 1 ≡ vec_len tris.old }
     ensures capacity { vec_capacity tris.new ≡ vec_capacity tris.old }
 {
@@ -58,15 +58,15 @@ fn enter_listed(tris: &mut Vec<Tri>, t: Tri)
 }
 
 // Takes each of the triangles out of the list.
-fn strike_all(tris: &mut Vec<Tri>, gone: &[Tri])
+fn remove_all(tris: &mut Vec<Tri>, removed: &[Tri])
     requires rising { IsRising tri_lt tris.old.items }
-    requires can { CanTake gone.now tris.old.items }
-    ensures struck { tris.new.items ≡ without_all gone.now tris.old.items }
+    requires can { CanTake removed.now tris.old.items }
+    ensures removed { tris.new.items ≡ without_all removed.now tris.old.items }
     ensures len { vec_len tris.new ≤ vec_len tris.old }
     ensures capacity { vec_capacity tris.new ≡ vec_capacity tris.old }
 {
-    for t in gone {
-        strike_listed(tris, *t);
+    for t in removed {
+        remove_listed(tris, *t);
     }
 }
 
@@ -87,14 +87,14 @@ fn enter_all(tris: &mut Vec<Tri>, new: &[Tri])
 }
 
 /// The first triangles give way to the second, where there is room for these.
-pub fn exchange_listed(tris: &mut Vec<Tri>, gone: &[Tri], new: &[Tri])
+pub fn exchange_listed(tris: &mut Vec<Tri>, removed: &[Tri], new: &[Tri])
     requires rising { IsRising tri_lt tris.old.items }
-    requires can { CanExchange gone.now new.now tris.old.items }
+    requires can { CanExchange removed.now new.now tris.old.items }
     requires room { vec_len tris.old + length new.now ≤ vec_capacity tris.old }
-    ensures given_way { tris.new.items ≡ exchanged gone.now new.now tris.old.items }
+    ensures exchanged { tris.new.items ≡ exchanged removed.now new.now tris.old.items }
     ensures len { vec_len tris.new ≤ vec_len tris.old + length new.now }
     ensures capacity { vec_capacity tris.old ≤ vec_capacity tris.new }
 {
-    strike_all(tris, gone);
+    remove_all(tris, removed);
     enter_all(tris, new);
 }

@@ -52,13 +52,13 @@ pub fn perform_within(
     op: Op,
     change: &Change,
 )
-    requires can { CanPerform table.old.sides table.old.nodes.items sites.old.items tris.old.items n op change.now.gone.items change.now.new.items }
+    requires can { CanPerform table.old.sides table.old.nodes.items sites.old.items tris.old.items n op change.now.removed.items change.now.new.items }
     requires names { n < vec_capacity table.old.nodes }
     requires sides { 3 * length change.now.new.items ≤ spare table.old.sides }
     requires sites { vec_len sites.old < vec_capacity sites.old }
     requires tris { vec_len tris.old + length change.now.new.items ≤ vec_capacity tris.old }
     ensures applied { (m : Undivided) → AreParts table.old.sides table.old.nodes.items sites.old.items tris.old.items m → (can : CanApply m n op)
-        → IsChange m n op change.now.gone.items change.now.new.items
+        → IsChange m n op change.now.removed.items change.now.new.items
         → AreParts table.new.sides table.new.nodes.items sites.new.items tris.new.items (op_applied m can.ticket op) }
     ensures names { vec_capacity table.old.nodes ≤ vec_capacity table.new.nodes }
     ensures sides { spare table.old.sides ≤ spare table.new.sides + 3 * length change.now.new.items }
@@ -66,6 +66,6 @@ pub fn perform_within(
     ensures tris { vec_capacity tris.old + vec_len tris.new ≤ vec_capacity tris.new + vec_len tris.old + length change.now.new.items }
 {
     perform_on_table(table, n, op, change);
-    exchange_listed(tris, &change.gone, &change.new);
-    change_sites(sites, n, table.place(n), op);
+    exchange_listed(tris, &change.removed, &change.new);
+    change_sites(sites, n, table.point(n), op);
 }

@@ -3,6 +3,7 @@ ghost use Rattle.std.specs.Prelude.{◌≡◌, ◌+◌, ◌*◌, ◌<◌, ◌≤
 ghost use Rattle.indexmap.specs.IndexMap.{spare};
 ghost use Rattle.pf_model.specs.Mesh.{Undivided};
 ghost use Rattle.pf_model.specs.Applied.{op_applied};
+ghost use Rattle.pf_model.specs.Limits.{most_spokes};
 ghost use Rattle.pf_edges.specs.Table.{AreInRange};
 ghost use Rattle.pf_edges.specs.Kept.{IsKept};
 ghost use Rattle.pf_rules.specs.Change.{CanApply, IsChange};
@@ -39,10 +40,10 @@ fn make_node(table: &mut EdgeTable, n: u32, op: Op)
 /// Performs an operation that passes, by what it makes of the triangles. A bisection's new node is named
 /// `n`. After an error the table shows the mesh that it showed before.
 pub fn perform(table: &mut EdgeTable, n: u32, op: Op, change: &Change) -> Result<(), NoMemory>
-    requires { ShowsApplicable table.old.sides table.old.nodes.items n op change.now.gone.items change.now.new.items }
+    requires { ShowsApplicable table.old.sides table.old.nodes.items n op change.now.removed.items change.now.new.items }
     ensures applied { OnOk result ((m : Undivided) → IsKept table.old.sides table.old.nodes.items m → (can : CanApply m n op)
-        → IsChange m n op change.now.gone.items change.now.new.items → IsKept table.new.sides table.new.nodes.items (op_applied m can.ticket op)) }
-    ensures few { OnOk result (length change.now.new.items ≤ 60) }
+        → IsChange m n op change.now.removed.items change.now.new.items → IsKept table.new.sides table.new.nodes.items (op_applied m can.ticket op)) }
+    ensures few { OnOk result (length change.now.new.items ≤ most_spokes) }
     ensures err { OnErr result ((m : Undivided) → IsKept table.old.sides table.old.nodes.items m → CanApply m n op
         → IsKept table.new.sides table.new.nodes.items m) }
 {
@@ -53,17 +54,17 @@ pub fn perform(table: &mut EdgeTable, n: u32, op: Op, change: &Change) -> Result
 
 /// Does so where there is room for it.
 pub fn perform_on_table(table: &mut EdgeTable, n: u32, op: Op, change: &Change)
-    requires can { ShowsApplicable table.old.sides table.old.nodes.items n op change.now.gone.items change.now.new.items }
+    requires can { ShowsApplicable table.old.sides table.old.nodes.items n op change.now.removed.items change.now.new.items }
     requires names { n < vec_capacity table.old.nodes }
     requires sides { 3 * length change.now.new.items ≤ spare table.old.sides }
     ensures applied { (m : Undivided) → IsKept table.old.sides table.old.nodes.items m → (can : CanApply m n op)
-        → IsChange m n op change.now.gone.items change.now.new.items → IsKept table.new.sides table.new.nodes.items (op_applied m can.ticket op) }
+        → IsChange m n op change.now.removed.items change.now.new.items → IsKept table.new.sides table.new.nodes.items (op_applied m can.ticket op) }
     ensures names { vec_capacity table.old.nodes ≤ vec_capacity table.new.nodes }
     ensures sides { spare table.old.sides ≤ spare table.new.sides + 3 * length change.now.new.items }
 {
     make_node(table, n, op);
     let (u, v) = ends(op);
-    let _ = change.gone.len();
+    let _ = change.removed.len();
     let _ = change.new.len();
-    table.exchange(u, v, &change.gone, &change.new);
+    table.exchange(u, v, &change.removed, &change.new);
 }

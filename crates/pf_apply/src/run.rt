@@ -4,6 +4,7 @@ ghost use Rattle.pf_model.specs.declared.Tri.{Tri};
 ghost use Rattle.pf_model.specs.Mesh.{Undivided};
 ghost use Rattle.pf_model.specs.Applied.{applied};
 ghost use Rattle.pf_model.specs.Replay.{HasTickets, first_refusal, refusal_of, replayed};
+ghost use Rattle.pf_model.specs.Limits.{most_names, most_spokes};
 ghost use Rattle.pf_edges.specs.Table.{AreInRange, ShowsTriangles};
 ghost use Rattle.pf_edges.specs.Kept.{IsKept};
 ghost use Rattle.pf_rules.specs.Change.{IsChange};
@@ -16,6 +17,9 @@ use pf_judge::operations::{gone_node, plan};
 use pf_model::{Band, Cond, Entry, Refusal, Site, Tri};
 use pf_rules::scratch::Scratch;
 use thiserror::Error;
+
+// The most triangles that an operation puts in.
+const MOST_SPOKES: usize = pf_model::MOST_SPOKES as usize;
 
 /// Where a run of entries stops, and why the entry with this ticket isn't applied.
 #[derive(Clone, Copy, Debug, PartialEq, Eq, Error)]
@@ -57,7 +61,7 @@ fn entry_refusal(
     requires { AreInRange table.now.nodes.items }
     ensures refusal { (m : Undivided) → IsKept table.now.sides table.now.nodes.items m → m.bands ≡ bands.now → result ≡ refusal_of m entry.now }
     ensures change { (m : Undivided) → IsKept table.now.sides table.now.nodes.items m → result ≡ None
-        → IsChange m n entry.now.op scratch.new.change.gone.items scratch.new.change.new.items }
+        → IsChange m n entry.now.op scratch.new.change.removed.items scratch.new.change.new.items }
 {
     if let Some(node) = gone_node(table, entry.op) {
         return Some(Refusal::Gone { node });
@@ -83,12 +87,12 @@ fn make_room(
     ensures sites_stay { vec_capacity sites.old ≤ vec_capacity sites.new }
     ensures tris_stay { vec_capacity tris.old ≤ vec_capacity tris.new }
     ensures sites_fit { OnOk result (last + 1 ≤ vec_capacity sites.new) }
-    ensures tris_fit { OnOk result ((ts : List Tri) → ShowsTriangles table.now.sides table.now.nodes.items ts → length ts + 60 ≤ vec_capacity tris.new) }
+    ensures tris_fit { OnOk result ((ts : List Tri) → ShowsTriangles table.now.sides table.now.nodes.items ts → length ts + most_spokes ≤ vec_capacity tris.new) }
 {
     if sites.reserve(last as usize + 1).is_err() {
         return Err(NoMemory);
     }
-    if tris.reserve(table.sides.len() / 3 + 60).is_err() {
+    if tris.reserve(table.sides.len() / 3 + MOST_SPOKES).is_err() {
         return Err(NoMemory);
     }
     Ok(())
@@ -106,7 +110,7 @@ fn step(
     scratch: &mut Scratch,
 ) -> Result<(), ApplyErr>
     requires reached { HasReached table.old.sides table.old.nodes.items bands.now first_new entry.now.ticket (vec_capacity sites.old) (vec_capacity tris.old) }
-    requires named { first_new + entry.now.ticket < 1048576 }
+    requires named { first_new + entry.now.ticket < most_names }
     requires no_sites { sites.old.items ≡ [] }
     requires no_tris { tris.old.items ≡ [] }
     ensures no_sites { sites.new.items ≡ [] }
@@ -146,7 +150,7 @@ pub fn run_entries(
 ) -> Result<(), RunErr>
     requires reached { HasReached table.old.sides table.old.nodes.items bands.now first_new 0 (vec_capacity sites.old) (vec_capacity tris.old) }
     requires tickets { HasTickets entries.now }
-    requires named { first_new + length entries.now ≤ 1048576 }
+    requires named { first_new + length entries.now ≤ most_names }
     requires no_sites { sites.old.items ≡ [] }
     requires no_tris { tris.old.items ≡ [] }
     ensures applied { OnOk result ((m : Undivided)

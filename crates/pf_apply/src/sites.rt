@@ -24,9 +24,9 @@ fn place(sites: &[Site], n: u32) -> usize
 }
 
 // Takes a node out of the list.
-fn strike_site(sites: &mut Vec<Site>, n: u32)
+fn remove_site(sites: &mut Vec<Site>, n: u32)
     requires { AllPairs (λ r s. r.name < s.name) sites.old.items }
-    ensures struck { sites.new.items ≡ filter (λ s. not (s.name == n)) sites.old.items }
+    ensures removed { sites.new.items ≡ filter (λ s. not (s.name == n)) sites.old.items }
     ensures len { vec_len sites.new ≤ vec_len sites.old }
     ensures capacity { vec_capacity sites.old ≤ vec_capacity sites.new }
 {
@@ -52,6 +52,6 @@ pub fn change_sites(sites: &mut Vec<Site>, n: u32, at: Point, op: Op)
     match op {
         Op::Flip { a: _, b: _ } => {}
         Op::Bisect { a: _, b: _ } => sites.push(Site { name: n, at }).unwrap(),
-        Op::Contract { u, v: _ } => strike_site(sites, u),
+        Op::Contract { u, v: _ } => remove_site(sites, u),
     }
 }

@@ -1,3 +1,3 @@
 pub mod SpanLemmas
-pub mod EdgeSpots
+pub mod EdgesLocated
 pub mod EdgeSearch

@@ -8,9 +8,9 @@ use Rattle.pf_model.specs.Sums.{edge_lt, edges_of, is_counted}
 use Rattle.pf_edge_list.specs.declared.edges.Edges.{Edges}
 use Rattle.pf_edge_list.specs.declared.edges.Corner.{Corner}
 use Rattle.pf_edge_list.specs.declared.edges.Corner.TheVariants.{First, Second, Third}
-use Rattle.pf_edge_list.specs.declared.edges.Parts.{Parts}
+use Rattle.pf_edge_list.specs.declared.edges.ByCorner.{ByCorner}
 use Rattle.pf_edge_list.specs.declared.edges.Sided.{Sided}
-use Rattle.pf_edge_list.specs.declared.edges.Spot.{Spot}
+use Rattle.pf_edge_list.specs.declared.edges.Located.{Located}
 use Rattle.pf_rules.specs.Lengths.{span_value}
 use Rattle.pf_edges.specs.Table.{Sides, side_at}
 
@@ -53,7 +53,7 @@ abbrev pub AreSided : Sides → List Tri → Type 0
 AreSided table ts = All (IsOnEdges table) ts
 
 -- the edges that come from this corner
-abbrev pub part_of : Corner → Parts → List Sided
+abbrev pub part_of : Corner → ByCorner → List Sided
 part_of First parts = parts.first.items
 part_of Second parts = parts.second.items
 part_of Third parts = parts.third.items
@@ -101,7 +101,7 @@ pub record AreEdges (m : Undivided) (edges : Edges) : Type 0 where
   pub starts : HasStarts edges
 
 -- the spot has this edge, with its sides, and its place if any is in the list
-pub record IsSpot (table : Sides) (edges : List Sided) (e : Edge) (spot : Spot) : Type 0 where
+pub record IsLocated (table : Sides) (edges : List Sided) (e : Edge) (spot : Located) : Type 0 where
   pub edge : sided_edge spot.edge ≡ e
   pub sided : IsSided table spot.edge
   pub placed : (i : ℕ) → spot.place ≡ Some i → slice_get edges i ≡ Some spot.edge

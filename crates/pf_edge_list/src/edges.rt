@@ -11,7 +11,7 @@ ghost use Rattle.pf_edge_list.specs.declared.edges.Corner.{Corner};
 ghost use Rattle.pf_edge_list.specs.declared.edges.Corner.TheVariants.{First, Second, Third};
 ghost use Rattle.pf_rules.specs.EdgeSides.{AreFoundSides};
 ghost use Rattle.pf_rules.specs.Lengths.{span_value};
-ghost use Rattle.pf_edge_list.specs.Edges.{sided_edge, AreEdges, AreRising, AreSided, AreStarts, HasStarts, IsAbsent, IsBelow, IsListed, IsOnEdges, IsOnlyIn, IsSided, IsSpot, IsStart, IsUpFrom, StandsAt, counted_from, counted_in, edge_from, part_of};
+ghost use Rattle.pf_edge_list.specs.Edges.{sided_edge, AreEdges, AreRising, AreSided, AreStarts, HasStarts, IsAbsent, IsBelow, IsListed, IsOnEdges, IsOnlyIn, IsSided, IsLocated, IsStart, IsUpFrom, StandsAt, counted_from, counted_in, edge_from, part_of};
 ghost use Rattle.pf_edges.specs.Table.{Shows, Sides, side_at};
 
 use pf_edges::table::EdgeTable;
@@ -39,7 +39,7 @@ pub enum Corner {
 
 /// An edge, and its place in a list of edges, where it was found there.
 #[derive(Clone, Copy, Debug, PartialEq, Eq)]
-pub struct Spot {
+pub struct Located {
     pub edge: Sided,
     pub place: Option<usize>,
 }
@@ -59,17 +59,17 @@ pub struct Edges {
 
 /// Edges by the corner of the triangle that they come from.
 #[derive(Drop)]
-pub struct Parts {
+pub struct ByCorner {
     pub first: Vec<Sided>,
     pub second: Vec<Sided>,
     pub third: Vec<Sided>,
 }
 
 // The parts one after another.
-fn joined(parts: Parts) -> Result<Vec<Sided>, NoMemory>
+fn joined(parts: ByCorner) -> Result<Vec<Sided>, NoMemory>
     ensures { IfOk result (λ edges. edges.items ≡ part_of First parts ++ (part_of Second parts ++ part_of Third parts)) }
 {
-    let Parts {
+    let ByCorner {
         first: mut edges,
         mut second,
         mut third,
@@ -258,16 +258,16 @@ fn looked_up(table: &EdgeTable, e: Span) -> Sided
 }
 
 /// The edge as it is listed, and by the table where it isn't.
-pub fn locate(table: &EdgeTable, edges: &Edges, e: Span) -> Spot
+pub fn locate(table: &EdgeTable, edges: &Edges, e: Span) -> Located
     requires { All (IsListed table.now.sides) edges.now.list.items }
-    ensures { IsSpot table.now.sides edges.now.list.items (span_value e) result }
+    ensures { IsLocated table.now.sides edges.now.list.items (span_value e) result }
 {
     match edges.find(e) {
-        Some(place) => Spot {
+        Some(place) => Located {
             edge: edges.list[place],
             place: Some(place),
         },
-        None => Spot {
+        None => Located {
             edge: looked_up(table, e),
             place: None,
         },
@@ -351,7 +351,7 @@ fn push_from(
 // Appends the counted edges of a triangle, each to the part of its corner.
 fn push_corners(
     table: &EdgeTable,
-    parts: &mut Parts,
+    parts: &mut ByCorner,
     tris: &[Tri],
     at: usize,
     t: Tri,
@@ -370,7 +370,7 @@ fn push_corners(
 
 // The counted edges of the triangles, by the corners that they come from. As the triangles rise by corners,
 // the first part is sorted, and the others are nearly so where names run through the mesh.
-fn parts_met(table: &EdgeTable, alloc: Global, tris: &[Tri]) -> Result<Parts, NoMemory>
+fn parts_met(table: &EdgeTable, alloc: Global, tris: &[Tri]) -> Result<ByCorner, NoMemory>
     requires { AreSided table.now.sides tris.now }
     ensures counted { IfOk result (λ parts. (m : Undivided) → Shows table.now.sides table.now.nodes.items m → (corner : Corner)
         → map sided_edge (part_of corner parts) ≡ counted_from m.tris corner tris.now) }
@@ -378,7 +378,7 @@ fn parts_met(table: &EdgeTable, alloc: Global, tris: &[Tri]) -> Result<Parts, No
 {
     let few = tris.len() / 8;
     let half = tris.len() / 2;
-    let mut parts = Parts {
+    let mut parts = ByCorner {
         first: with_room(alloc, tris.len().saturating_add(half).saturating_add(few))?,
         second: with_room(alloc, half.saturating_add(few))?,
         third: Vec::new(alloc),

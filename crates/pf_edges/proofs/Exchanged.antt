@@ -13,7 +13,7 @@ use Rattle.pf_model.proofs.Kept.{any-means, has_edge-first}
 use Rattle.pf_edges.specs.declared.table.Node.{Node}
 use Rattle.pf_model.specs.Exchange.{IsTurned, IsNone, AreOnce, AreSound, SharesNoEdge, AreFit, CanTake, CanExchange, without, without_all, exchanged, tally, number_at}
 use Rattle.pf_edges.specs.Table.{Sides, edge_eq, side_at, triangles_at, ShowsTriangles}
-use Rattle.pf_edges.specs.TableSteps.{side_with, side_with_all, side_without, is_struck}
+use Rattle.pf_edges.specs.TableSteps.{side_with, side_with_all, side_without, is_removed}
 use Rattle.pf_model.proofs.Exchange.{side_in, side_of-insert, side_of-without, tally-insert, tally-without, length-tally}
 use Rattle.pf_edges.proofs.TableSteps.{can_take-rest}
 use Rattle.pf_edges.proofs.Entries.{entries-counted, no_others}
@@ -69,12 +69,12 @@ side_of-insert_all (t ∷ new) ts p q fit = go (has_edge p q t) refl (side_of-in
         ∙ entered t p q (side_of ts p q) last e
     go false e ih = ap (side_with_all new p q) (bare t p q (side_of ts p q) e) ∙ (ih ∙ sym (bare t p q last e))
 
-side_of-without_all : (gone ts : List Tri) (p q : ℕ) → CanTake gone ts → side_of (without_all gone ts) p q ≡ cond (list_any (has_edge p q) gone) None (side_of ts p q)
+side_of-without_all : (removed ts : List Tri) (p q : ℕ) → CanTake removed ts → side_of (without_all removed ts) p q ≡ cond (list_any (has_edge p q) removed) None (side_of ts p q)
 side_of-without_all [] ts p q can = refl
-side_of-without_all (g ∷ gone) ts p q can =
-    side_of-without_all gone (without g ts) p q (can_take-rest g gone ts can)
-    ∙ (ap (λ o. cond (list_any (has_edge p q) gone) None o) (side_of-without g ts p q can.sound (can.stand g (here g gone)))
-    ∙ twice (has_edge p q g) (list_any (has_edge p q) gone))
+side_of-without_all (g ∷ removed) ts p q can =
+    side_of-without_all removed (without g ts) p q (can_take-rest g removed ts can)
+    ∙ (ap (λ o. cond (list_any (has_edge p q) removed) None o) (side_of-without g ts p q can.sound (can.stand g (here g removed)))
+    ∙ twice (has_edge p q g) (list_any (has_edge p q) removed))
   where
     twice : (x y : Bool) → cond y None (cond x None (side_of ts p q)) ≡ cond (x || y) None (side_of ts p q)
     twice true true = refl
@@ -85,16 +85,16 @@ tally-insert_all : (f : Tri → ℕ) (new ts : List Tri) → tally f (insert_all
 tally-insert_all f [] ts = omega arith
 tally-insert_all f (t ∷ new) ts = let a = tally-insert f t (insert_all_by tri_lt new ts) in let ih = tally-insert_all f new ts in omega (arith, a, ih)
 
-tally-without_all : (f : Tri → ℕ) (gone ts : List Tri) → CanTake gone ts → tally f (without_all gone ts) + tally f gone ≡ tally f ts
+tally-without_all : (f : Tri → ℕ) (removed ts : List Tri) → CanTake removed ts → tally f (without_all removed ts) + tally f removed ≡ tally f ts
 tally-without_all f [] ts can = omega arith
-tally-without_all f (g ∷ gone) ts can =
-    let a = tally-without f g ts can.sound.edges_once can.sound.once (can.stand g (here g gone)) in
-    let ih = tally-without_all f gone (without g ts) (can_take-rest g gone ts can) in
+tally-without_all f (g ∷ removed) ts can =
+    let a = tally-without f g ts can.sound.edges_once can.sound.once (can.stand g (here g removed)) in
+    let ih = tally-without_all f removed (without g ts) (can_take-rest g removed ts can) in
     omega (arith, a, ih)
 
-sound-without_all : (gone ts : List Tri) → CanTake gone ts → AreSound (without_all gone ts)
+sound-without_all : (removed ts : List Tri) → CanTake removed ts → AreSound (without_all removed ts)
 sound-without_all [] ts can = can.sound
-sound-without_all (g ∷ gone) ts can = sound-without_all gone (without g ts) (can_take-rest g gone ts can)
+sound-without_all (g ∷ removed) ts can = sound-without_all removed (without g ts) (can_take-rest g removed ts can)
 
 once-insert : (t : Tri) (ts : List Tri) → IsNone t ts → AreOnce ts → AreOnce (insert_by tri_lt t ts)
 once-insert t [] bare once = (bare, tt)
@@ -125,8 +125,8 @@ sound-insert_all : (new ts : List Tri) → AreFit new ts → AreSound ts → Are
 sound-insert_all [] ts fit s = s
 sound-insert_all (t ∷ new) ts fit s = sound-insert t (insert_all_by tri_lt new ts) fit.0 fit.1 (sound-insert_all new ts fit.2 s)
 
-pub gone-turned : (gone ts : List Tri) → CanTake gone ts → All IsTurned gone
-gone-turned gone ts can k d l = can.sound.turned _ (can.stand _ (Contains-get_or gone k d l))
+pub removed-turned : (removed ts : List Tri) → CanTake removed ts → All IsTurned removed
+removed-turned removed ts can k d l = can.sound.turned _ (can.stand _ (Contains-get_or removed k d l))
 
 pub new-turned : (new ts : List Tri) → AreFit new ts → All IsTurned new
 new-turned new ts fit k d l = turned new fit _ (Contains-get_or new k d l)
@@ -135,12 +135,12 @@ new-turned new ts fit k d l = turned new fit _ (Contains-get_or new k d l)
     turned [] fit t h = absurd (nowhere t h)
     turned (s ∷ new) fit t h = elim (cases t s new h) [ inl e ↦ subst (λ x. IsTurned x) (sym e) fit.0 | inr k ↦ turned new fit.2 t k ]
 
--- the sides after the second list is entered, and the edges struck that only the first has
-sides-exchanged : (gone new ts : List Tri) (p q : ℕ) → CanExchange gone new ts → side_without (list_any (has_edge p q) gone) new p q (side_with_all new p q (side_of ts p q)) ≡ side_of (exchanged gone new ts) p q
-sides-exchanged gone new ts p q can = go (list_any (has_edge p q) new) refl ∙ side_of-insert_all new (without_all gone ts) p q can.fit
+-- the sides after the second list is entered, and the edges removed that only the first has
+sides-exchanged : (removed new ts : List Tri) (p q : ℕ) → CanExchange removed new ts → side_without (list_any (has_edge p q) removed) new p q (side_with_all new p q (side_of ts p q)) ≡ side_of (exchanged removed new ts) p q
+sides-exchanged removed new ts p q can = go (list_any (has_edge p q) new) refl ∙ side_of-insert_all new (without_all removed ts) p q can.fit
   where
-    taken : side_of (without_all gone ts) p q ≡ cond (list_any (has_edge p q) gone) None (side_of ts p q)
-    taken = side_of-without_all gone ts p q can.take
+    taken : side_of (without_all removed ts) p q ≡ cond (list_any (has_edge p q) removed) None (side_of ts p q)
+    taken = side_of-without_all removed ts p q can.take
 
     kept : (b : Bool) (x : Option Side) → cond (b && not true) None x ≡ x
     kept true x = refl
@@ -150,65 +150,65 @@ sides-exchanged gone new ts p q can = go (list_any (has_edge p q) new) refl ∙ 
     left true x = refl
     left false x = refl
 
-    go : (b : Bool) → list_any (has_edge p q) new ≡ b → side_without (list_any (has_edge p q) gone) new p q (side_with_all new p q (side_of ts p q)) ≡ side_with_all new p q (side_of (without_all gone ts) p q)
+    go : (b : Bool) → list_any (has_edge p q) new ≡ b → side_without (list_any (has_edge p q) removed) new p q (side_with_all new p q (side_of ts p q)) ≡ side_with_all new p q (side_of (without_all removed ts) p q)
     go true e =
-        ap (λ b. cond (list_any (has_edge p q) gone && not b) None (side_with_all new p q (side_of ts p q))) e
-        ∙ (kept (list_any (has_edge p q) gone) (side_with_all new p q (side_of ts p q))
-        ∙ with_all-some new p q (side_of ts p q) (side_of (without_all gone ts) p q) e)
+        ap (λ b. cond (list_any (has_edge p q) removed && not b) None (side_with_all new p q (side_of ts p q))) e
+        ∙ (kept (list_any (has_edge p q) removed) (side_with_all new p q (side_of ts p q))
+        ∙ with_all-some new p q (side_of ts p q) (side_of (without_all removed ts) p q) e)
     go false e =
-        ap (λ b. cond (list_any (has_edge p q) gone && not b) None (side_with_all new p q (side_of ts p q))) e
-        ∙ (left (list_any (has_edge p q) gone) (side_with_all new p q (side_of ts p q))
-        ∙ (ap (λ o. cond (list_any (has_edge p q) gone) None o) (with_all-none new p q (side_of ts p q) e)
-        ∙ (sym taken ∙ sym (with_all-none new p q (side_of (without_all gone ts) p q) e))))
+        ap (λ b. cond (list_any (has_edge p q) removed && not b) None (side_with_all new p q (side_of ts p q))) e
+        ∙ (left (list_any (has_edge p q) removed) (side_with_all new p q (side_of ts p q))
+        ∙ (ap (λ o. cond (list_any (has_edge p q) removed) None o) (with_all-none new p q (side_of ts p q) e)
+        ∙ (sym taken ∙ sym (with_all-none new p q (side_of (without_all removed ts) p q) e))))
 
 -- how many triangles there are then
-pub length-exchanged : (gone new ts : List Tri) → CanTake gone ts → length (exchanged gone new ts) + length gone ≡ length ts + length new
-length-exchanged gone new ts can =
-    let a = tally-insert_all (λ t. 1) new (without_all gone ts) in
-    let b = tally-without_all (λ t. 1) gone ts can in
-    let i = length-tally (exchanged gone new ts) in
-    let g = length-tally gone in
+pub length-exchanged : (removed new ts : List Tri) → CanTake removed ts → length (exchanged removed new ts) + length removed ≡ length ts + length new
+length-exchanged removed new ts can =
+    let a = tally-insert_all (λ t. 1) new (without_all removed ts) in
+    let b = tally-without_all (λ t. 1) removed ts can in
+    let i = length-tally (exchanged removed new ts) in
+    let g = length-tally removed in
     let n = length-tally new in
     let t = length-tally ts in
     omega (arith, a, b, i, g, n, t)
 
--- the sides after the second list is entered and edges are struck that only the first has: all of them, or as many as should go
-pub sides-struck : (entered last : Sides) (gone new ts : List Tri) (left : ℕ) → ((p q : ℕ) → side_at entered p q ≡ side_with_all new p q (side_of ts p q))
-    → ((p q : ℕ) → is_struck gone new p q ≡ false → side_at last p q ≡ side_at entered p q)
-    → (index_map_len last ≡ left) ⊎ ((p q : ℕ) → is_struck gone new p q ≡ true → side_at last p q ≡ None)
-    → left ≡ 3 * length (exchanged gone new ts) → IsUnique edge_eq last → CanExchange gone new ts → (p q : ℕ) → side_at last p q ≡ side_of (exchanged gone new ts) p q
-sides-struck entered last gone new ts left sides kept struck count unique can p q = go (is_struck gone new p q) refl
+-- the sides after the second list is entered and edges are removed that only the first has: all of them, or as many as should go
+pub sides-removed : (entered last : Sides) (removed new ts : List Tri) (left : ℕ) → ((p q : ℕ) → side_at entered p q ≡ side_with_all new p q (side_of ts p q))
+    → ((p q : ℕ) → is_removed removed new p q ≡ false → side_at last p q ≡ side_at entered p q)
+    → (index_map_len last ≡ left) ⊎ ((p q : ℕ) → is_removed removed new p q ≡ true → side_at last p q ≡ None)
+    → left ≡ 3 * length (exchanged removed new ts) → IsUnique edge_eq last → CanExchange removed new ts → (p q : ℕ) → side_at last p q ≡ side_of (exchanged removed new ts) p q
+sides-removed entered last removed new ts left sides kept out count unique can p q = go (is_removed removed new p q) refl
   where
     after : List Tri
-    after = exchanged gone new ts
+    after = exchanged removed new ts
 
-    stays : (p q : ℕ) → is_struck gone new p q ≡ false → side_at last p q ≡ side_of after p q
-    stays p q e = kept p q e ∙ (sides p q ∙ (sym (ap (λ b. cond b None (side_with_all new p q (side_of ts p q))) e) ∙ sides-exchanged gone new ts p q can))
+    stays : (p q : ℕ) → is_removed removed new p q ≡ false → side_at last p q ≡ side_of after p q
+    stays p q e = kept p q e ∙ (sides p q ∙ (sym (ap (λ b. cond b None (side_with_all new p q (side_of ts p q))) e) ∙ sides-exchanged removed new ts p q can))
 
-    goes : (p q : ℕ) → is_struck gone new p q ≡ true → side_of after p q ≡ None
-    goes p q e = sym (sides-exchanged gone new ts p q can) ∙ ap (λ b. cond b None (side_with_all new p q (side_of ts p q))) e
+    goes : (p q : ℕ) → is_removed removed new p q ≡ true → side_of after p q ≡ None
+    goes p q e = sym (sides-exchanged removed new ts p q can) ∙ ap (λ b. cond b None (side_with_all new p q (side_of ts p q))) e
 
-    has : (p q : ℕ) (b : Bool) → is_struck gone new p q ≡ b → is_some (side_of after p q) ≡ true → is_some (side_at last p q) ≡ true
+    has : (p q : ℕ) (b : Bool) → is_removed removed new p q ≡ b → is_some (side_of after p q) ≡ true → is_some (side_at last p q) ≡ true
     has p q true e h = absurd (let z : false ≡ true = sym (ap is_some (goes p q e)) ∙ h in cc)
     has p q false e h = ap is_some (stays p q e) ∙ h
 
     sound : AreSound after
-    sound = sound-insert_all new (without_all gone ts) can.fit (sound-without_all gone ts can.take)
+    sound = sound-insert_all new (without_all removed ts) can.fit (sound-without_all removed ts can.take)
 
-    go : (b : Bool) → is_struck gone new p q ≡ b → side_at last p q ≡ side_of after p q
+    go : (b : Bool) → is_removed removed new p q ≡ b → side_at last p q ≡ side_of after p q
     go false e = stays p q e
-    go true e = elim struck [
-      | inl few ↦ no_others last after unique sound (few ∙ count) (λ x y h. has x y (is_struck gone new x y) refl h) p q (goes p q e) ∙ sym (goes p q e)
+    go true e = elim out [
+      | inl few ↦ no_others last after unique sound (few ∙ count) (λ x y h. has x y (is_removed removed new x y) refl h) p q (goes p q e) ∙ sym (goes p q e)
       | inr all ↦ all p q e ∙ sym (goes p q e)
     ]
 
-pub shows_exchange : (old new : Sides) (before after : List Node) (gone added ts : List Tri)
-    → ((p q : ℕ) → side_at new p q ≡ side_of (exchanged gone added ts) p q)
-    → ((n : ℕ) → triangles_at after n ≡ number_at n added + (triangles_at before n - number_at n gone))
-    → IsUnique edge_eq new → ShowsTriangles old before ts → CanExchange gone added ts → ShowsTriangles new after (exchanged gone added ts)
-shows_exchange old new before after gone added ts shown counts unique s can =
+pub shows_exchange : (old new : Sides) (before after : List Node) (removed added ts : List Tri)
+    → ((p q : ℕ) → side_at new p q ≡ side_of (exchanged removed added ts) p q)
+    → ((n : ℕ) → triangles_at after n ≡ number_at n added + (triangles_at before n - number_at n removed))
+    → IsUnique edge_eq new → ShowsTriangles old before ts → CanExchange removed added ts → ShowsTriangles new after (exchanged removed added ts)
+shows_exchange old new before after removed added ts shown counts unique s can =
     record {
       sides = shown;
-      counts = λ n. (let a = counts n in let b = s.counts n in let d = tally-insert_all (λ t. cond (has_corner n t) 1 0) added (without_all gone ts) in let e = tally-without_all (λ t. cond (has_corner n t) 1 0) gone ts can.take in omega (arith, a, b, d, e));
-      all = entries-counted new (exchanged gone added ts) unique shown (sound-insert_all added (without_all gone ts) can.fit (sound-without_all gone ts can.take));
+      counts = λ n. (let a = counts n in let b = s.counts n in let d = tally-insert_all (λ t. cond (has_corner n t) 1 0) added (without_all removed ts) in let e = tally-without_all (λ t. cond (has_corner n t) 1 0) removed ts can.take in omega (arith, a, b, d, e));
+      all = entries-counted new (exchanged removed added ts) unique shown (sound-insert_all added (without_all removed ts) can.fit (sound-without_all removed ts can.take));
     }

@@ -32,18 +32,18 @@ side_with-is t p q old = go (t.a == p && t.b == q) (t.b == p && t.c == q) (t.c =
     go false false true = refl
     go false false false = refl
 
--- what `strike` does to a side
-pub struck : (p q a b : ℕ) (new : List Tri) (old : Option Side) → list_any (has_edge p q) new ≡ false → cond (p == a && q == b) None old ≡ side_without (p == a && q == b) new a b old
-struck p q a b new old none = go (p == a && q == b) refl
+-- what `remove_edge` does to a side
+pub removed : (p q a b : ℕ) (new : List Tri) (old : Option Side) → list_any (has_edge p q) new ≡ false → cond (p == a && q == b) None old ≡ side_without (p == a && q == b) new a b old
+removed p q a b new old none = go (p == a && q == b) refl
   where
     go : (x : Bool) → (p == a && q == b) ≡ x → cond x None old ≡ side_without x new a b old
     go true e = let s = same_ends p q a b e in let h : list_any (has_edge a b) new ≡ false = (λ i. list_any (has_edge (sym s.0 i) (sym s.1 i)) new) ∙ none in ap (λ n. cond (not n) None old) (sym h)
     go false e = refl
 
--- what `strike_edges` does to a side, edge by edge
-pub struck-three : (t : Tri) (new : List Tri) (p q : ℕ) (old : Option Side)
+-- what `remove_edges` does to a side, edge by edge
+pub removed-three : (t : Tri) (new : List Tri) (p q : ℕ) (old : Option Side)
     → side_without (t.c == p && t.a == q) new p q (side_without (t.b == p && t.c == q) new p q (side_without (t.a == p && t.b == q) new p q old)) ≡ side_without (has_edge p q t) new p q old
-struck-three t new p q old = go (t.a == p && t.b == q) (t.b == p && t.c == q) (t.c == p && t.a == q) (list_any (has_edge p q) new)
+removed-three t new p q old = go (t.a == p && t.b == q) (t.b == p && t.c == q) (t.c == p && t.a == q) (list_any (has_edge p q) new)
   where
     go : (x y z n : Bool) → cond (z && not n) None (cond (y && not n) None (cond (x && not n) None old)) ≡ cond ((x || (y || z)) && not n) None old
     go true true true true = refl
@@ -63,7 +63,7 @@ struck-three t new p q old = go (t.a == p && t.b == q) (t.b == p && t.c == q) (t
     go false false false true = refl
     go false false false false = refl
 
--- what `strike_bare_edges` does to a side, edge by edge
+-- what `remove_bare_edges` does to a side, edge by edge
 pub bare-three : (t : Tri) (p q : ℕ) (bare : Bool) (old : Option Side)
     → side_bare (t.c == p && t.a == q) bare (side_bare (t.b == p && t.c == q) bare (side_bare (t.a == p && t.b == q) bare old)) ≡ side_bare (has_edge p q t) bare old
 bare-three t p q bare old = go (t.a == p && t.b == q) (t.b == p && t.c == q) (t.c == p && t.a == q) bare

@@ -63,8 +63,8 @@ pub record HasSamePlaces (old new : List Node) : Type 0 where
   pub places : (n : ℕ) → place_at new n ≡ place_at old n
 
 -- where a name that has triangles stands, and the origin for every other
-abbrev pub place_or_origin : List Node → ℕ → Point
-place_or_origin nodes n = unwrap_or (site_at nodes n) record { x = pos 0; y = pos 0 }
+abbrev pub point_or_origin : List Node → ℕ → Point
+point_or_origin nodes n = unwrap_or (site_at nodes n) record { x = pos 0; y = pos 0 }
 
 -- every place of the table is in range
 pub record AreInRange (nodes : List Node) : Type 0 where

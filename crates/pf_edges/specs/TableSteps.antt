@@ -1,4 +1,4 @@
--- The side of a directed edge of the edge table after triangles are entered and edges struck.
+-- The side of a directed edge of the edge table after triangles are entered and edges removed.
 use Rattle.std.specs.Prelude.{◌≡◌, ℕ, Bool, true, false, cond, not, ◌&&◌, ◌||◌, ◌==◌, List, [], ◌∷◌, Option, Some, None}
 use Rattle.std.specs.List.{list_any}
 use Rattle.pf_model.specs.declared.Tri.{Tri}
@@ -14,9 +14,9 @@ abbrev pub side_with_all : List Tri → ℕ → ℕ → Option Side → Option S
 side_with_all [] p q old = old
 side_with_all (t ∷ new) p q old = side_with_all new p q (side_with t p q old)
 
--- after it is struck where the test holds and none of the triangles has it
+-- after it is removed where the test holds and none of the triangles has it
 abbrev pub side_without : Bool → List Tri → ℕ → ℕ → Option Side → Option Side
-side_without gone new p q old = cond (gone && not (list_any (has_edge p q) new)) None old
+side_without removed new p q old = cond (removed && not (list_any (has_edge p q) new)) None old
 
 -- the directed edge p to q is at u, and is at v too unless all are meant
 abbrev pub is_bare : ℕ → ℕ → Bool → ℕ → ℕ → Bool
@@ -26,10 +26,10 @@ is_bare u v all p q = (p == u && (all || q == v)) || (q == u && (all || p == v))
 abbrev pub AreBare : ℕ → ℕ → Bool → List Tri → Type 0
 AreBare u v all ts = (p q : ℕ) → is_bare u v all p q ≡ true → list_any (has_edge p q) ts ≡ false
 
--- after it is struck where both tests hold
+-- after it is removed where both tests hold
 abbrev pub side_bare : Bool → Bool → Option Side → Option Side
-side_bare gone bare old = cond (gone && bare) None old
+side_bare removed bare old = cond (removed && bare) None old
 
 -- the directed edge is one of the first list and none of the second
-abbrev pub is_struck : List Tri → List Tri → ℕ → ℕ → Bool
-is_struck gone new p q = list_any (has_edge p q) gone && not (list_any (has_edge p q) new)
+abbrev pub is_removed : List Tri → List Tri → ℕ → ℕ → Bool
+is_removed removed new p q = list_any (has_edge p q) removed && not (list_any (has_edge p q) new)

@@ -10,10 +10,11 @@ ghost use Rattle.pf_model.specs.declared.Tri.{Tri};
 ghost use Rattle.pf_model.specs.Rising.{insert_by};
 ghost use Rattle.pf_model.specs.Mesh.{tri_lt, has_edge, has_corner};
 ghost use Rattle.pf_model.specs.Build.{point_at};
-ghost use Rattle.pf_edges.specs.Table.{IsEmptyTable, side_at, site_at, place_at, triangles_at, place_or_origin, AreInRange, IsWithin, HasSamePlaces, ShowsTriangles};
+ghost use Rattle.pf_edges.specs.Table.{IsEmptyTable, side_at, site_at, place_at, triangles_at, point_or_origin, AreInRange, IsWithin, HasSamePlaces, ShowsTriangles};
 ghost use Rattle.pf_edges.specs.Hasher.{place_of_edge};
 ghost use Rattle.pf_model.specs.Exchange.{IsTurned, SharesNoEdge, CanExchange, exchanged, number_at};
-ghost use Rattle.pf_edges.specs.TableSteps.{side_with, side_with_all, side_without, side_bare, is_bare, is_struck, AreBare};
+ghost use Rattle.pf_model.specs.Limits.{most_spokes};
+ghost use Rattle.pf_edges.specs.TableSteps.{side_with, side_with_all, side_without, side_bare, is_bare, is_removed, AreBare};
 
 use crate::hasher::EdgeHasher;
 use indexmap::IndexMap;
@@ -147,114 +148,114 @@ fn is_bare(u: u32, v: u32, all: bool, p: u32, q: u32) -> bool
     (p == u && (all || q == v)) || (q == u && (all || p == v))
 }
 
-// Strikes a directed edge.
+// Removes a directed edge.
 #[inline(always)]
-fn strike(sides: &mut SideMap, p: u32, q: u32)
+fn remove_edge(sides: &mut SideMap, p: u32, q: u32)
     ensures sides { (a b : ℕ) → side_at sides.new a b ≡ cond (p == a && q == b) None (side_at sides.old a b) }
     ensures spare { spare sides.old ≤ spare sides.new }
 {
     sides.swap_remove(&Edge { from: p, to: q });
 }
 
-// Strikes a directed edge that is bare.
+// Removes a directed edge that is bare.
 #[inline(always)]
-fn strike_bare(sides: &mut SideMap, p: u32, q: u32, u: u32, v: u32, all: bool)
+fn remove_bare(sides: &mut SideMap, p: u32, q: u32, u: u32, v: u32, all: bool)
     ensures sides { (a b : ℕ) → side_at sides.new a b ≡ side_bare (p == a && q == b) (is_bare u v all a b) (side_at sides.old a b) }
     ensures spare { spare sides.old ≤ spare sides.new }
 {
     if is_bare(u, v, all, p, q) {
-        strike(sides, p, q);
+        remove_edge(sides, p, q);
     }
 }
 
-// Strikes the bare edges of a triangle.
+// Removes the bare edges of a triangle.
 #[inline(always)]
-fn strike_bare_edges(sides: &mut SideMap, t: Tri, u: u32, v: u32, all: bool)
+fn remove_bare_edges(sides: &mut SideMap, t: Tri, u: u32, v: u32, all: bool)
     ensures sides { (p q : ℕ) → side_at sides.new p q ≡ side_bare (has_edge p q t) (is_bare u v all p q) (side_at sides.old p q) }
     ensures spare { spare sides.old ≤ spare sides.new }
 {
-    strike_bare(sides, t.a, t.b, u, v, all);
-    strike_bare(sides, t.b, t.c, u, v, all);
-    strike_bare(sides, t.c, t.a, u, v, all);
+    remove_bare(sides, t.a, t.b, u, v, all);
+    remove_bare(sides, t.b, t.c, u, v, all);
+    remove_bare(sides, t.c, t.a, u, v, all);
 }
 
-// Strikes the bare edges of the triangles.
+// Removes the bare edges of the triangles.
 #[inline(never)]
-fn strike_all_bare(sides: &mut SideMap, gone: &[Tri], u: u32, v: u32, all: bool)
+fn remove_all_bare(sides: &mut SideMap, removed: &[Tri], u: u32, v: u32, all: bool)
     ensures sides { (p q : ℕ) → side_at sides.new p q
-        ≡ side_bare (list_any (has_edge p q) gone.now) (is_bare u v all p q) (side_at sides.old p q) }
+        ≡ side_bare (list_any (has_edge p q) removed.now) (is_bare u v all p q) (side_at sides.old p q) }
     ensures spare { spare sides.old ≤ spare sides.new }
 {
-    for t in gone {
-        strike_bare_edges(sides, *t, u, v, all);
+    for t in removed {
+        remove_bare_edges(sides, *t, u, v, all);
     }
 }
 
-// Strikes a directed edge that none of the triangles has.
-fn strike_unless(sides: &mut SideMap, p: u32, q: u32, new: &[Tri])
+// Removes a directed edge that none of the triangles has.
+fn remove_unless(sides: &mut SideMap, p: u32, q: u32, new: &[Tri])
     ensures sides { (a b : ℕ) → side_at sides.new a b ≡ side_without (p == a && q == b) new.now a b (side_at sides.old a b) }
     ensures spare { spare sides.old ≤ spare sides.new }
 {
     if !is_side_of(new, p, q) {
-        strike(sides, p, q);
+        remove_edge(sides, p, q);
     }
 }
 
-// Strikes the directed edges of a triangle that none of the others has.
-fn strike_edges(sides: &mut SideMap, t: Tri, new: &[Tri])
+// Removes the directed edges of a triangle that none of the others has.
+fn remove_edges(sides: &mut SideMap, t: Tri, new: &[Tri])
     ensures sides { (p q : ℕ) → side_at sides.new p q ≡ side_without (has_edge p q t) new.now p q (side_at sides.old p q) }
     ensures spare { spare sides.old ≤ spare sides.new }
 {
-    strike_unless(sides, t.a, t.b, new);
-    strike_unless(sides, t.b, t.c, new);
-    strike_unless(sides, t.c, t.a, new);
+    remove_unless(sides, t.a, t.b, new);
+    remove_unless(sides, t.b, t.c, new);
+    remove_unless(sides, t.c, t.a, new);
 }
 
-// Strikes the directed edges that a triangle of the first list has and none of the second.
+// Removes the directed edges that a triangle of the first list has and none of the second.
 #[inline(never)]
-fn strike_all(sides: &mut SideMap, gone: &[Tri], new: &[Tri])
+fn remove_all(sides: &mut SideMap, removed: &[Tri], new: &[Tri])
     ensures sides { (p q : ℕ) → side_at sides.new p q
-        ≡ side_without (list_any (has_edge p q) gone.now) new.now p q (side_at sides.old p q) }
+        ≡ side_without (list_any (has_edge p q) removed.now) new.now p q (side_at sides.old p q) }
     ensures spare { spare sides.old ≤ spare sides.new }
 {
-    for t in gone {
-        strike_edges(sides, *t, new);
+    for t in removed {
+        remove_edges(sides, *t, new);
     }
 }
 
-// Strikes the edges of the first list at `u` that are bare of the second, and says whether so many sides are
+// Removes the edges of the first list at `u` that are bare of the second, and says whether so many sides are
 // left then.
-fn is_struck_bare(
+fn removes_bare(
     sides: &mut SideMap,
-    gone: &[Tri],
+    removed: &[Tri],
     new: &[Tri],
     u: u32,
     v: u32,
     left: usize,
 ) -> bool
-    ensures kept { (p q : ℕ) → is_struck gone.now new.now p q ≡ false → side_at sides.new p q ≡ side_at sides.old p q }
+    ensures kept { (p q : ℕ) → is_removed removed.now new.now p q ≡ false → side_at sides.new p q ≡ side_at sides.old p q }
     ensures left { IsTrue result → index_map_len sides.new ≡ left }
     ensures spare { spare sides.old ≤ spare sides.new }
 {
     let Some(all) = bare_edges(new, u, v) else {
         return false;
     };
-    strike_all_bare(sides, gone, u, v, all);
+    remove_all_bare(sides, removed, u, v, all);
     sides.len() == left
 }
 
-// Strikes the directed edges that a triangle of the first list has and none of the second. Most often these
+// Removes the directed edges that a triangle of the first list has and none of the second. Most often these
 // are the bare edges at `u`. Where as many sides are left after those as there should be, no others are
 // looked at.
-fn strike_gone(sides: &mut SideMap, gone: &[Tri], new: &[Tri], u: u32, v: u32, left: usize)
-    ensures kept { (p q : ℕ) → is_struck gone.now new.now p q ≡ false → side_at sides.new p q ≡ side_at sides.old p q }
-    ensures struck { (index_map_len sides.new ≡ left) ⊎ ((p q : ℕ) → is_struck gone.now new.now p q ≡ true → side_at sides.new p q ≡ None) }
+fn remove_replaced(sides: &mut SideMap, removed: &[Tri], new: &[Tri], u: u32, v: u32, left: usize)
+    ensures kept { (p q : ℕ) → is_removed removed.now new.now p q ≡ false → side_at sides.new p q ≡ side_at sides.old p q }
+    ensures removed { (index_map_len sides.new ≡ left) ⊎ ((p q : ℕ) → is_removed removed.now new.now p q ≡ true → side_at sides.new p q ≡ None) }
     ensures spare { spare sides.old ≤ spare sides.new }
 {
-    if is_struck_bare(sides, gone, new, u, v, left) {
+    if removes_bare(sides, removed, new, u, v, left) {
         return;
     }
-    strike_all(sides, gone, new);
+    remove_all(sides, removed, new);
 }
 
 // A node without triangles at each point.
@@ -354,13 +355,13 @@ fn raise_all(nodes: &mut Vec<Node>, new: &[Tri])
 
 // The corners of each of the triangles have one triangle less for it.
 #[inline(never)]
-fn lower_all(nodes: &mut Vec<Node>, gone: &[Tri])
-    requires { All (IsWithin nodes.old.items) gone.now }
-    ensures counts { All IsTurned gone.now → (n : ℕ) → triangles_at nodes.new.items n ≡ triangles_at nodes.old.items n - number_at n gone.now }
+fn lower_all(nodes: &mut Vec<Node>, removed: &[Tri])
+    requires { All (IsWithin nodes.old.items) removed.now }
+    ensures counts { All IsTurned removed.now → (n : ℕ) → triangles_at nodes.new.items n ≡ triangles_at nodes.old.items n - number_at n removed.now }
     ensures places { HasSamePlaces nodes.old.items nodes.new.items }
     ensures room { vec_capacity nodes.old ≤ vec_capacity nodes.new }
 {
-    for t in gone {
+    for t in removed {
         lower_corners(nodes, *t);
     }
 }
@@ -405,23 +406,23 @@ impl EdgeTable {
     /// The first triangles give way to the second. The second are entered first, so that the directed edges
     /// that both have stay where they are. The names are those of an edge that goes, and the first of them
     /// may be a node that goes.
-    pub fn exchange(&mut self, u: u32, v: u32, gone: &[Tri], new: &[Tri])
-        requires gone_few { length gone.now ≤ 60 }
-        requires new_few { length new.now ≤ 60 }
-        requires gone_within { All (IsWithin self.old.nodes.items) gone.now }
+    pub fn exchange(&mut self, u: u32, v: u32, removed: &[Tri], new: &[Tri])
+        requires removed_few { length removed.now ≤ most_spokes }
+        requires new_few { length new.now ≤ most_spokes }
+        requires removed_within { All (IsWithin self.old.nodes.items) removed.now }
         requires new_within { All (IsWithin self.old.nodes.items) new.now }
         requires room { 3 * length new.now ≤ spare self.old.sides }
-        ensures shows { (ts : List Tri) → ShowsTriangles self.old.sides self.old.nodes.items ts → CanExchange gone.now new.now ts
-            → ShowsTriangles self.new.sides self.new.nodes.items (exchanged gone.now new.now ts) }
+        ensures shows { (ts : List Tri) → ShowsTriangles self.old.sides self.old.nodes.items ts → CanExchange removed.now new.now ts
+            → ShowsTriangles self.new.sides self.new.nodes.items (exchanged removed.now new.now ts) }
         ensures places { HasSamePlaces self.old.nodes.items self.new.nodes.items }
         ensures room { spare self.old.sides ≤ spare self.new.sides + 3 * length new.now }
         ensures names { vec_capacity self.old.nodes ≤ vec_capacity self.new.nodes }
     {
-        let left = (self.sides.len() + 3 * new.len()).saturating_sub(3 * gone.len());
+        let left = (self.sides.len() + 3 * new.len()).saturating_sub(3 * removed.len());
         enter_all(&mut self.sides, new);
-        strike_gone(&mut self.sides, gone, new, u, v, left);
+        remove_replaced(&mut self.sides, removed, new, u, v, left);
         let _ = self.sides.len();
-        lower_all(&mut self.nodes, gone);
+        lower_all(&mut self.nodes, removed);
         raise_all(&mut self.nodes, new);
     }
 
@@ -452,15 +453,15 @@ impl EdgeTable {
 
     /// Where a node stands, and the origin where it isn't live.
     pub fn spot(&self, n: u32) -> Point
-        ensures { result ≡ place_or_origin self.now.nodes.items n }
+        ensures { result ≡ point_or_origin self.now.nodes.items n }
     {
         self.site(n).unwrap_or(Point { x: 0, y: 0 })
     }
 
     /// The same, which is in range where every place is.
-    pub fn place(&self, n: u32) -> Point
+    pub fn point(&self, n: u32) -> Point
         requires { AreInRange self.now.nodes.items }
-        ensures value { result ≡ place_or_origin self.now.nodes.items n }
+        ensures value { result ≡ point_or_origin self.now.nodes.items n }
         ensures in_range { IsInRange result }
     {
         self.spot(n)

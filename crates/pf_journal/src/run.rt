@@ -3,6 +3,7 @@ ghost use Rattle.std.specs.Prelude.{◌≡◌, ◌≢◌, ◌+◌, ◌<◌, ◌�
 ghost use Rattle.pf_model.specs.Conforming.{IsLive, IsConforming};
 ghost use Rattle.pf_model.specs.Replay.{replayed, first_refusal, IsLegal, HasTickets};
 ghost use Rattle.pf_model.specs.Sums.{area2_of, euler_of};
+ghost use Rattle.pf_model.specs.Limits.{most_names};
 ghost use Rattle.pf_cover_model.specs.Alike.{CoversAlike, KeepsFans};
 ghost use Rattle.pf_journal.specs.declared.run.ReplayErr.TheVariants.{Memory};
 ghost use Rattle.pf_journal.specs.Replay.{error_of, IsReplayedBefore};
@@ -46,7 +47,7 @@ impl From<RunErr> for ReplayErr {
 pub fn replay(mesh: &mut Mesh, entries: &[Entry]) -> Result<(), ReplayErr>
     requires fresh { (n : ℕ) → IsLive mesh.old.mesh n → n < mesh.old.mesh.first_new }
     requires tickets { HasTickets entries.now }
-    requires limit { mesh.old.mesh.first_new + length entries.now ≤ 1048576 }
+    requires limit { mesh.old.mesh.first_new + length entries.now ≤ most_names }
     ensures legal { OnOk result (IsLegal mesh.old.mesh entries.now) }
     ensures replayed { OnOk result (mesh.new.mesh ≡ replayed mesh.old.mesh entries.now) }
     ensures refused { IfErr result (λ err. err ≢ Memory → option_map error_of (first_refusal mesh.old.mesh entries.now) ≡ Some err) }

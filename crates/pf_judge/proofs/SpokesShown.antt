@@ -6,20 +6,20 @@ use Rattle.pf_model.specs.Mesh.{Undivided, side_of, place_of}
 use Rattle.pf_model.specs.Conforming.{IsConforming}
 use Rattle.pf_model.specs.Stars.{spokes_of, is_neighbour}
 use Rattle.pf_edges.specs.declared.table.Node.{Node}
-use Rattle.pf_edges.specs.Table.{Sides, Shows, side_at, place_or_origin, AreInRange, place_at, triangles_at}
+use Rattle.pf_edges.specs.Table.{Sides, Shows, side_at, point_or_origin, AreInRange, place_at, triangles_at}
 use Rattle.pf_rules.specs.Star.{IsSpokeOn, IsSpokeBefore}
 use Rattle.pf_rules.proofs.StarSpokes.{spoke_with, some_same, spoke-on_some, spoke-on_none, spoke-before_some, spoke-before_none}
 use Rattle.pf_rules.proofs.ContractReads.{or_swap, neighbour-edge}
 use Rattle.pf_geom.specs.Plane.{IsInRange}
 
-pub shown-place : (sides : Sides) (nodes : List Node) (m : Undivided) → Shows sides nodes m → (n : ℕ) → place_or_origin nodes n ≡ place_of m n
-shown-place sides nodes m s n = ap (λ o. unwrap_or o record { x = pos 0; y = pos 0 }) (s.sites n)
+pub shown-point : (sides : Sides) (nodes : List Node) (m : Undivided) → Shows sides nodes m → (n : ℕ) → point_or_origin nodes n ≡ place_of m n
+shown-point sides nodes m s n = ap (λ o. unwrap_or o record { x = pos 0; y = pos 0 }) (s.sites n)
 
-pub spoke-on : (sides : Sides) (nodes : List Node) (m : Undivided) → IsConforming m → Shows sides nodes m → (u r apex owner : ℕ) (p q : Point) → Some record { apex = apex; owner = owner } ≡ side_at sides u r → p ≡ place_or_origin nodes r → q ≡ place_or_origin nodes apex
+pub spoke-on : (sides : Sides) (nodes : List Node) (m : Undivided) → IsConforming m → Shows sides nodes m → (u r apex owner : ℕ) (p q : Point) → Some record { apex = apex; owner = owner } ≡ side_at sides u r → p ≡ point_or_origin nodes r → q ≡ point_or_origin nodes apex
     → IsSpokeOn (spokes_of m u) r (Some record { right = r; right_at = p; left = apex; left_at = q; owner = owner })
 spoke-on sides nodes m ok s u r apex owner p q e ep eq =
     record {
-      there = λ x k. (let same : spoke_with m r apex owner ≡ x = (λ i. record { right = r; right_at = sym (ep ∙ shown-place sides nodes m s r) i; left = apex; left_at = sym (eq ∙ shown-place sides nodes m s apex) i; owner = owner }) ∙ some_same k in
+      there = λ x k. (let same : spoke_with m r apex owner ≡ x = (λ i. record { right = r; right_at = sym (ep ∙ shown-point sides nodes m s r) i; left = apex; left_at = sym (eq ∙ shown-point sides nodes m s apex) i; owner = owner }) ∙ some_same k in
           (subst (λ w. Contains (spokes_of m u) w) same (spoke-on_some m ok u r record { apex = apex; owner = owner } (sym (s.triangles.sides u r) ∙ sym e)), ap (λ w. w.right) (sym same)));
       absent = λ k. absurd (let z : Some record { right = r; right_at = p; left = apex; left_at = q; owner = owner } ≡ None = k in cc);
     }
@@ -31,11 +31,11 @@ spoke-on_not sides nodes m ok s u r e =
       absent = λ k. spoke-on_none m ok u r (sym (s.triangles.sides u r) ∙ sym e);
     }
 
-pub spoke-before : (sides : Sides) (nodes : List Node) (m : Undivided) → IsConforming m → Shows sides nodes m → (u l apex owner : ℕ) (p q : Point) → Some record { apex = apex; owner = owner } ≡ side_at sides l u → p ≡ place_or_origin nodes apex → q ≡ place_or_origin nodes l
+pub spoke-before : (sides : Sides) (nodes : List Node) (m : Undivided) → IsConforming m → Shows sides nodes m → (u l apex owner : ℕ) (p q : Point) → Some record { apex = apex; owner = owner } ≡ side_at sides l u → p ≡ point_or_origin nodes apex → q ≡ point_or_origin nodes l
     → IsSpokeBefore (spokes_of m u) l (Some record { right = apex; right_at = p; left = l; left_at = q; owner = owner })
 spoke-before sides nodes m ok s u l apex owner p q e ep eq =
     record {
-      there = λ x k. (let same : spoke_with m apex l owner ≡ x = (λ i. record { right = apex; right_at = sym (ep ∙ shown-place sides nodes m s apex) i; left = l; left_at = sym (eq ∙ shown-place sides nodes m s l) i; owner = owner }) ∙ some_same k in
+      there = λ x k. (let same : spoke_with m apex l owner ≡ x = (λ i. record { right = apex; right_at = sym (ep ∙ shown-point sides nodes m s apex) i; left = l; left_at = sym (eq ∙ shown-point sides nodes m s l) i; owner = owner }) ∙ some_same k in
           (subst (λ w. Contains (spokes_of m u) w) same (spoke-before_some m ok u l record { apex = apex; owner = owner } (sym (s.triangles.sides l u) ∙ sym e)), ap (λ w. w.left) (sym same)));
       absent = λ k. absurd (let z : Some record { right = apex; right_at = p; left = l; left_at = q; owner = owner } ≡ None = k in cc);
     }
@@ -48,7 +48,7 @@ spoke-before_not sides nodes m ok s u l e =
     }
 
 -- a point that the table gives is in range
-pub spot-in_range : (nodes : List Node) (n : ℕ) → AreInRange nodes → IsInRange (place_or_origin nodes n)
+pub spot-in_range : (nodes : List Node) (n : ℕ) → AreInRange nodes → IsInRange (point_or_origin nodes n)
 spot-in_range nodes n range = go (nat_lt 0 (triangles_at nodes n))
   where
     go : (b : Bool) → IsInRange (unwrap_or (cond b (Some (place_at nodes n)) None) record { x = pos 0; y = pos 0 })

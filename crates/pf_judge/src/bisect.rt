@@ -10,7 +10,7 @@ ghost use Rattle.pf_edges.specs.Kept.{IsKept};
 ghost use Rattle.pf_rules.specs.Change.{IsChange};
 ghost use Rattle.pf_edges.specs.Table.{AreInRange, Shows};
 
-use crate::conditions::apex_place;
+use crate::conditions::apex_point;
 use crate::edge_sides::edge_sides;
 use pf_edges::table::EdgeTable;
 use pf_geom::{Point, middle};
@@ -28,7 +28,7 @@ pub fn middle_between(table: &EdgeTable, a: u32, b: u32) -> Option<Point>
     ensures in_range { IfSome result IsInRange }
     ensures value { (m : Undivided) → Shows table.now.sides table.now.nodes.items m → result ≡ middle_of (place_of m a) (place_of m b) }
 {
-    middle(table.place(a), table.place(b))
+    middle(table.point(a), table.point(b))
 }
 
 // The first condition of a bisection alone that fails.
@@ -47,15 +47,15 @@ fn bisect_alone(
         bands,
         Placed {
             name: lo,
-            at: table.place(lo),
+            at: table.point(lo),
         },
         Placed {
             name: hi,
-            at: table.place(hi),
+            at: table.point(hi),
         },
         edge_sides,
-        apex_place(table, edge_sides.left),
-        apex_place(table, edge_sides.right),
+        apex_point(table, edge_sides.left),
+        apex_point(table, edge_sides.right),
     )
 }
 
@@ -87,18 +87,18 @@ pub fn bisect_plan(
     n: u32,
     a: u32,
     b: u32,
-    gone: &mut Tris,
+    removed: &mut Tris,
     new: &mut Tris,
 ) -> Option<Cond>
     requires { AreInRange table.now.nodes.items }
     ensures cond { (m : Undivided) → IsKept table.now.sides table.now.nodes.items m → m.bands ≡ bands.now → result ≡ first_failing m chunk (Bisect a b) }
     ensures change { (m : Undivided) → IsKept table.now.sides table.now.nodes.items m → result ≡ None
-        → IsChange m n (Bisect a b) gone.new.items new.new.items }
+        → IsChange m n (Bisect a b) removed.new.items new.new.items }
 {
     let edge_sides = edge_sides(table, a, b);
     if let Some(cond) = bisect_condition(table, bands, chunk, a, b, edge_sides) {
         return Some(cond);
     }
-    bisect_change(n, a, b, edge_sides, gone, new);
+    bisect_change(n, a, b, edge_sides, removed, new);
     None
 }

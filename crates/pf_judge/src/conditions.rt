@@ -18,12 +18,12 @@ use pf_rules::lengths::Placed;
 use pf_rules::refusals::{apex_of, flip_refusal, there_refusal};
 
 /// Where the apex of a side stands, and the node 0 where there is none.
-pub fn apex_place(table: &EdgeTable, side: Option<Side>) -> Point
+pub fn apex_point(table: &EdgeTable, side: Option<Side>) -> Point
     requires { AreInRange table.now.nodes.items }
     ensures in_range { IsInRange result }
     ensures value { (m : Undivided) → Shows table.now.sides table.now.nodes.items m → result ≡ place_of m (apex_or side) }
 {
-    table.place(apex_of(side))
+    table.point(apex_of(side))
 }
 
 // Whether there is an edge between the apexes of two sides.
@@ -42,15 +42,15 @@ pub fn flip_alone(table: &EdgeTable, lo: u32, hi: u32, edge_sides: EdgeSides) ->
     let refused = flip_refusal(
         Placed {
             name: lo,
-            at: table.place(lo),
+            at: table.point(lo),
         },
         Placed {
             name: hi,
-            at: table.place(hi),
+            at: table.point(hi),
         },
         edge_sides,
-        apex_place(table, edge_sides.left),
-        apex_place(table, edge_sides.right),
+        apex_point(table, edge_sides.left),
+        apex_point(table, edge_sides.right),
     );
     match refused {
         Some(cond) => Some(cond),

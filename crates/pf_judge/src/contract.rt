@@ -14,6 +14,7 @@ ghost use Rattle.pf_edges.specs.Kept.{IsKept};
 ghost use Rattle.pf_rules.specs.Change.{IsChange};
 ghost use Rattle.pf_rules.specs.Star.{HasSpots};
 ghost use Rattle.pf_model.specs.declared.Spoke.{Spoke};
+ghost use Rattle.pf_model.specs.Limits.{most_spokes};
 ghost use Rattle.pf_rules.specs.Contract.{AreAround, AreClose, IsShape, is_link_at, star_clauses};
 
 use crate::edge_sides::edge_sides;
@@ -32,7 +33,7 @@ use pf_rules::scratch::{Names, Scratch, StarLists};
 use pf_rules::star::{first_right, last_left};
 
 /// A node with more triangles isn't contracted.
-const MOST_TRIANGLES: u64 = 60;
+const MOST_SPOKES: u64 = pf_model::MOST_SPOKES as u64;
 
 // Whether the star's path, with these ends, bends at the node.
 fn is_bent(table: &EdgeTable, u: u32, first: Option<u32>, last: u32) -> bool
@@ -41,7 +42,7 @@ fn is_bent(table: &EdgeTable, u: u32, first: Option<u32>, last: u32) -> bool
         → result ≡ (is_some first && not (int_eq (turn_at m (unwrap_or first 0) u last) (pos 0))) }
 {
     match first {
-        Some(first) => !is_flat(table.place(first), table.place(u), table.place(last)),
+        Some(first) => !is_flat(table.point(first), table.point(u), table.point(last)),
         None => false,
     }
 }
@@ -171,7 +172,7 @@ pub fn shape_condition(
 {
     let at = Placed {
         name: v,
-        at: table.place(v),
+        at: table.point(v),
     };
     match contract_refusal(at, shape, link, star) {
         Some(cond) => Some(cond),
@@ -190,7 +191,7 @@ fn star_condition(
     names: &mut Names,
 ) -> Option<Cond>
     requires in_range { AreInRange table.now.nodes.items }
-    requires few { length star.now ≤ 60 }
+    requires few { length star.now ≤ most_spokes }
     requires spots { All HasSpots star.now }
     ensures { (m : Undivided) → IsConforming m → Shows table.now.sides table.now.nodes.items m → m.bands ≡ bands.now → AreEdgeSides m.tris u v edge_sides
         → star.now ≡ spokes_of m u → result ≡ first_of (star_clauses m u v star.now (spokes_of m v)) }
@@ -230,7 +231,7 @@ pub fn contract_star(
     if let Some(cond) = edge_condition(chunk, u, v, edge_sides) {
         return Some(cond);
     }
-    if table.triangles(u) > MOST_TRIANGLES {
+    if table.triangles(u) > MOST_SPOKES {
         return Some(Cond::TooWide);
     }
     if !find_fan(table, u, v, edge_sides, &mut lists.star) {
@@ -276,12 +277,12 @@ pub fn contract_plan(
     requires { AreInRange table.now.nodes.items }
     ensures cond { (m : Undivided) → IsKept table.now.sides table.now.nodes.items m → m.bands ≡ bands.now → result ≡ first_failing m chunk (Contract u v) }
     ensures change { (m : Undivided) (n : ℕ) → IsKept table.now.sides table.now.nodes.items m → result ≡ None
-        → IsChange m n (Contract u v) scratch.new.change.gone.items scratch.new.change.new.items }
+        → IsChange m n (Contract u v) scratch.new.change.removed.items scratch.new.change.new.items }
 {
     if let Some(cond) = contract_star(table, bands, chunk, u, v, &mut scratch.lists) {
         return Some(cond);
     }
-    triangles_of(u, &scratch.lists.star, &mut scratch.change.gone);
+    triangles_of(u, &scratch.lists.star, &mut scratch.change.removed);
     triangles_moved(v, &scratch.lists.star, &mut scratch.change.new);
     None
 }

@@ -21,18 +21,18 @@ pub fn flip_plan(
     chunk: u16,
     a: u32,
     b: u32,
-    gone: &mut Tris,
+    removed: &mut Tris,
     new: &mut Tris,
 ) -> Option<Cond>
     requires { AreInRange table.now.nodes.items }
     ensures cond { (m : Undivided) → IsKept table.now.sides table.now.nodes.items m → result ≡ first_failing m chunk (Flip a b) }
     ensures change { (m : Undivided) (n : ℕ) → IsKept table.now.sides table.now.nodes.items m → result ≡ None
-        → IsChange m n (Flip a b) gone.new.items new.new.items }
+        → IsChange m n (Flip a b) removed.new.items new.new.items }
 {
     let edge_sides = edge_sides(table, a, b);
     if let Some(cond) = flip_condition(table, chunk, a, b, edge_sides) {
         return Some(cond);
     }
-    flip_change(a, b, edge_sides, gone, new);
+    flip_change(a, b, edge_sides, removed, new);
     None
 }

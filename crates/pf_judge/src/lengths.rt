@@ -19,7 +19,7 @@ pub fn placed(table: &EdgeTable, n: u32) -> Placed
 {
     Placed {
         name: n,
-        at: table.place(n),
+        at: table.point(n),
     }
 }
 
@@ -28,7 +28,7 @@ pub fn least_length(table: &EdgeTable, bands: &[Band], a: u32, b: u32) -> i64
     requires { AreInRange table.now.nodes.items }
     ensures { (m : Undivided) → Shows table.now.sides table.now.nodes.items m → m.bands ≡ bands.now → result ≡ min2_of m a b }
 {
-    least_between(bands, table.place(a), table.place(b))
+    least_between(bands, table.point(a), table.point(b))
 }
 
 /// Whether an edge is longer than its band allows.
@@ -36,7 +36,7 @@ pub fn is_long(table: &EdgeTable, bands: &[Band], a: u32, b: u32) -> bool
     requires { AreInRange table.now.nodes.items }
     ensures { (m : Undivided) → Shows table.now.sides table.now.nodes.items m → m.bands ≡ bands.now → result ≡ is_long m a b }
 {
-    is_long_between(bands, table.place(a), table.place(b))
+    is_long_between(bands, table.point(a), table.point(b))
 }
 
 /// The longest edge of the triangle `p`, `q`, `z`.

@@ -45,11 +45,11 @@ pub fn plan(
     requires { AreInRange table.now.nodes.items }
     ensures cond { (m : Undivided) → IsKept table.now.sides table.now.nodes.items m → m.bands ≡ bands.now → result ≡ first_failing m chunk op }
     ensures change { (m : Undivided) → IsKept table.now.sides table.now.nodes.items m → result ≡ None
-        → IsChange m n op scratch.new.change.gone.items scratch.new.change.new.items }
+        → IsChange m n op scratch.new.change.removed.items scratch.new.change.new.items }
 {
     let change = &mut scratch.change;
     match op {
-        Op::Flip { a, b } => { flip_plan(table, chunk, a, b, &mut change.gone, &mut change.new) }
+        Op::Flip { a, b } => { flip_plan(table, chunk, a, b, &mut change.removed, &mut change.new) }
         Op::Bisect { a, b } => {
             bisect_plan(
                 table,
@@ -58,7 +58,7 @@ pub fn plan(
                 n,
                 a,
                 b,
-                &mut change.gone,
+                &mut change.removed,
                 &mut change.new,
             )
         }

@@ -3,6 +3,7 @@ ghost use Rattle.std.specs.Prelude.{◌≡◌, ℕ, ◌≤◌, length, All, IfSo
 ghost use Rattle.pf_model.specs.Mesh.{Undivided, is_edge};
 ghost use Rattle.pf_model.specs.Conforming.{IsConforming};
 ghost use Rattle.pf_model.specs.Stars.{spokes_of};
+ghost use Rattle.pf_model.specs.Limits.{most_spokes};
 ghost use Rattle.pf_edges.specs.Table.{AreInRange, Shows, side_at, triangles_at};
 ghost use Rattle.pf_rules.specs.EdgeSides.{AreEdgeSides};
 ghost use Rattle.pf_rules.specs.Star.{HasSpots, IsSpokeOn, IsSpokeBefore, IsChain, IsChainToLeft, IsTurned, IsFan};
@@ -90,7 +91,7 @@ fn put_edge_sides(table: &EdgeTable, v: u32, edge_sides: EdgeSides, found: &mut 
 // Adds the triangles at `u` that come by turning left from where these end, up to the boundary or round to
 // where they begin. Gives where they begin and end then.
 fn turn_left(table: &EdgeTable, u: u32, ends: Ends, most: usize, found: &mut Spokes) -> Ends
-    requires { most ≤ 60 }
+    requires { most ≤ most_spokes }
     ensures found { (m : Undivided) → IsConforming m → Shows table.now.sides table.now.nodes.items m → length (spokes_of m u) ≡ most
         → IsChain (spokes_of m u) found.old.items ends.first ends.last → IsChainToLeft (spokes_of m u) found.new.items result.first result.last }
     ensures spots { AreInRange table.now.nodes.items → All HasSpots found.old.items → All HasSpots found.new.items }
@@ -110,7 +111,7 @@ fn turn_left(table: &EdgeTable, u: u32, ends: Ends, most: usize, found: &mut Spo
 // Adds the triangles at `u` that come by turning right from where these begin, up to the boundary or round
 // to where they end.
 fn turn_right(table: &EdgeTable, u: u32, ends: Ends, most: usize, found: &mut Spokes)
-    requires { most ≤ 60 }
+    requires { most ≤ most_spokes }
     ensures found { (m : Undivided) → IsConforming m → Shows table.now.sides table.now.nodes.items m → length (spokes_of m u) ≡ most
         → IsChainToLeft (spokes_of m u) found.old.items ends.first ends.last → IsTurned (spokes_of m u) found.new.items }
     ensures spots { AreInRange table.now.nodes.items → All HasSpots found.old.items → All HasSpots found.new.items }
@@ -131,7 +132,7 @@ fn turn_right(table: &EdgeTable, u: u32, ends: Ends, most: usize, found: &mut Sp
 /// there is where `u` has no more triangles. The triangles at that edge are at hand. What the list held
 /// doesn't matter.
 pub fn find_fan(table: &EdgeTable, u: u32, v: u32, edge_sides: EdgeSides, star: &mut Spokes) -> bool
-    requires narrow { triangles_at table.now.nodes.items u ≤ 60 }
+    requires narrow { triangles_at table.now.nodes.items u ≤ most_spokes }
     ensures found { (m : Undivided) → IsConforming m → Shows table.now.sides table.now.nodes.items m → AreEdgeSides m.tris u v edge_sides
         → is_edge m.tris u v ≡ true → IsFan (spokes_of m u) result star.new.items }
     ensures spots { AreInRange table.now.nodes.items → All HasSpots star.new.items }

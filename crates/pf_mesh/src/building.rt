@@ -5,6 +5,7 @@ ghost use Rattle.pf_model.specs.Build.{built};
 ghost use Rattle.pf_model.specs.Conforming.{IsConforming};
 ghost use Rattle.pf_model.specs.Tables.{AreListed};
 ghost use Rattle.pf_model.specs.declared.BuildErr.{BuildErr};
+ghost use Rattle.pf_model.specs.Limits.{most_names, most_triangles};
 ghost use Rattle.pf_mesh.specs.Room.{IsRoomFor};
 
 use crate::mesh::Mesh;
@@ -43,8 +44,8 @@ pub fn build_in(
     points: &[Point],
     tris: &[[u32; 3]],
 ) -> Result<Mesh, BuildErr>
-    requires few_points { length points.now ≤ 1048576 }
-    requires few_tris { length tris.now ≤ 2097152 }
+    requires few_points { length points.now ≤ most_names }
+    requires few_tris { length tris.now ≤ most_triangles }
     requires in_range { All IsInRange points.now }
     requires room { IsRoomFor points.now (length tris.now) room }
     ensures ok { IfOk result (λ m. built points.now tris.now ≡ Ok m.mesh) }
@@ -82,8 +83,8 @@ pub fn build_in(
 /// names. `Memory` says that memory ran out:
 /// before the first triangle was looked at, or once all were found right.
 pub fn build(alloc: Global, points: &[Point], tris: &[[u32; 3]]) -> Result<Mesh, BuildErr>
-    requires few_points { length points.now ≤ 1048576 }
-    requires few_tris { length tris.now ≤ 2097152 }
+    requires few_points { length points.now ≤ most_names }
+    requires few_tris { length tris.now ≤ most_triangles }
     requires in_range { All IsInRange points.now }
     ensures ok { IfOk result (λ m. built points.now tris.now ≡ Ok m.mesh) }
     ensures fault { (e : BuildErr) → result ≡ Err e → e ≢ BuildErr.Memory → built points.now tris.now ≡ Err e }

@@ -11,6 +11,7 @@ ghost use Rattle.std.specs.Option.{option_map};
 ghost use Rattle.pf_model.specs.Sums.{area2_of, euler_of};
 ghost use Rattle.pf_model.specs.Tables.{AreListed, with_tables_of};
 ghost use Rattle.pf_model.specs.Wishes.{rest_of};
+ghost use Rattle.pf_model.specs.Limits.{most_names};
 ghost use Rattle.pf_cover_model.specs.Alike.{CoversAlike, KeepsFans};
 ghost use Rattle.pf_edges.specs.Kept.{mesh_of, IsKept};
 ghost use Rattle.pf_rules.specs.Change.{CanApply, IsChange};
@@ -31,7 +32,10 @@ use std::alloc::Global;
 use std::marker::Model;
 
 // How many names there are, those of the points and one for each operation.
-const MOST_NAMES: usize = 1_048_576;
+const MOST_NAMES: usize = pf_model::MOST_NAMES as usize;
+
+// The most triangles that an operation puts in.
+const MOST_SPOKES: usize = pf_model::MOST_SPOKES as usize;
 
 /// A conforming, positive mesh: whoever holds one holds a mesh whose triangles have live and distinct
 /// corners and turn left, whose directed edges stand in one triangle each, whose live nodes are all in a
@@ -209,7 +213,7 @@ impl Mesh {
     /// that the operation fails. `Memory` says that there was no room for the change.
     pub fn apply(&mut self, e: &Entry) -> Result<(), ApplyErr>
         requires fresh { IsFresh self.old.mesh e.now.ticket }
-        requires named { self.old.mesh.first_new + e.now.ticket < 1048576 }
+        requires named { self.old.mesh.first_new + e.now.ticket < most_names }
         ensures applied { OnOk result (self.new.mesh ≡ applied self.old.mesh e.now) }
         ensures passes { OnOk result (first_failing self.old.mesh e.now.chunk e.now.op ≡ None) }
         ensures gone { (n : ℕ) → (result ≡ Err (ApplyErr.Gone n)) ↔ (gone_end self.old.mesh e.now.op ≡ Some n) }
@@ -242,7 +246,7 @@ impl Mesh {
 
     /// Makes room for so many operations, so that `apply_spare` can apply them. The mesh stays as it is.
     ///
-    /// Each operation gets room for the 60 triangles that it can bring at most, and any new name gets its
+    /// Each operation gets room for the `MOST_SPOKES` triangles that it can bring at most, and any new name gets its
     /// place: they take 16 MB of address space, which stay untouched until the names are used. `NoMemory`
     /// says that there was no such room.
     pub fn reserve(&mut self, ops: u32) -> Result<(), NoMemory>
@@ -255,7 +259,7 @@ impl Mesh {
             &mut self.sites,
             &mut self.tris,
             MOST_NAMES,
-            60 * ops as usize,
+            MOST_SPOKES * ops as usize,
             ops as usize,
         )?;
         Ok(())
@@ -265,7 +269,7 @@ impl Mesh {
     /// no memory, and uses room for at most one operation.
     pub fn apply_spare(&mut self, e: &Entry)
         requires fresh { IsFresh self.old.mesh e.now.ticket }
-        requires named { self.old.mesh.first_new + e.now.ticket < 1048576 }
+        requires named { self.old.mesh.first_new + e.now.ticket < most_names }
         requires live { AreEndsLive self.old.mesh e.now.op }
         requires passes { first_failing self.old.mesh e.now.chunk e.now.op ≡ None }
         requires room { 1 ≤ self.old.spare }
@@ -304,7 +308,7 @@ impl Mesh {
     pub fn apply_all(&mut self, entries: &[Entry]) -> Result<(), RunErr>
         requires fresh { IsFresh self.old.mesh 0 }
         requires tickets { HasTickets entries.now }
-        requires named { self.old.mesh.first_new + length entries.now ≤ 1048576 }
+        requires named { self.old.mesh.first_new + length entries.now ≤ most_names }
         ensures replayed { OnOk result (self.new.mesh ≡ replayed self.old.mesh entries.now) }
         ensures legal { OnOk result (IsLegal self.old.mesh entries.now) }
         ensures passed { OnOk result (first_refusal self.old.mesh entries.now ≡ None) }
@@ -348,7 +352,7 @@ impl Mesh {
     // of the triangles.
     fn plan(&self, chunk: u16, n: u32, op: Op, scratch: &mut Scratch) -> Option<Cond>
         ensures cond { result ≡ first_failing self.now.mesh chunk op }
-        ensures change { result ≡ None → IsChange self.now.mesh n op scratch.new.change.gone.items scratch.new.change.new.items }
+        ensures change { result ≡ None → IsChange self.now.mesh n op scratch.new.change.removed.items scratch.new.change.new.items }
     {
         plan(&self.table, &self.bands, chunk, n, op, scratch)
     }
@@ -357,7 +361,7 @@ impl Mesh {
     // anything changes.
     fn perform(&mut self, n: u32, op: Op, change: &Change) -> Result<(), NoMemory>
         requires can { CanApply self.old.mesh n op }
-        requires change { IsChange self.old.mesh n op change.now.gone.items change.now.new.items }
+        requires change { IsChange self.old.mesh n op change.now.removed.items change.now.new.items }
         ensures ok { OnOk result ((can : CanApply self.old.mesh n op) → self.new.mesh ≡ op_applied self.old.mesh can.ticket op) }
         ensures err { OnErr result (self.new.mesh ≡ self.old.mesh) }
     {

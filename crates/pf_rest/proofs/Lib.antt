@@ -1,7 +1,7 @@
 pub mod WalkSteps
 pub mod WalkEnds
 pub mod FlipAlone
-pub mod WalkSpots
+pub mod WalksLocated
 pub mod ToldNotes
 pub mod Near
 pub mod Uncrossed

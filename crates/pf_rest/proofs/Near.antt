@@ -14,12 +14,11 @@ use Rattle.pf_model.specs.declared.Band.{Band}
 use Rattle.pf_model.specs.declared.Spoke.{Spoke}
 use Rattle.pf_model.specs.Mesh.{Undivided, place_of, len2_at}
 use Rattle.pf_model.specs.Lengths.{holds_middle}
-use Rattle.pf_model.specs.Rows.{neighbours}
 use Rattle.pf_rules.specs.Contract.{AreAround, AreClose}
 use Rattle.pf_edges.specs.declared.table.Node.{Node}
 use Rattle.pf_rest.specs.Rest.{IsLimit, is_reached}
-use Rattle.pf_edges.specs.Table.{Sides, Shows, place_or_origin}
-use Rattle.pf_rules.proofs.Names.{names-neighbours, same_name}
+use Rattle.pf_edges.specs.Table.{Sides, Shows, point_or_origin}
+use Rattle.pf_rules.proofs.Names.{names-neighbours}
 
 -- the two sides of a parallelogram, squared, and its two diagonals
 abbrev sum_square : ℤ → ℤ → ℤ → Expression
@@ -100,10 +99,10 @@ named-at p (y ∷ ys) h x e = go (y == x) refl e (named-at p ys (λ k d l. h (su
 
 -- where each of the names is close
 pub close-shown : (sides : Sides) (nodes : List Node) (m : Undivided) (us : List Spoke) (names : List ℕ) (u : Point) (limit : ℤ) → Shows sides nodes m → IsLimit m.bands limit → AreAround us names
-    → ((k d : ℕ) → k < length names → is_reached u (place_or_origin nodes (slice_index_or names k d)) limit ≡ true) → AreClose m us
+    → ((k d : ℕ) → k < length names → is_reached u (point_or_origin nodes (slice_index_or names k d)) limit ≡ true) → AreClose m us
 close-shown sides nodes m us names u limit s bands around near =
     close-none m us names u limit bands around
     (named-at (λ x. is_reached u (place_of m x) limit) names (λ k d l. subst (λ p. is_reached u p limit ≡ true) (place-shown (slice_index_or names k d)) (near k d l)))
   where
-    place-shown : (n : ℕ) → place_or_origin nodes n ≡ place_of m n
+    place-shown : (n : ℕ) → point_or_origin nodes n ≡ place_of m n
     place-shown n = ap (λ o. unwrap_or o record { x = pos 0; y = pos 0 }) (s.sites n)

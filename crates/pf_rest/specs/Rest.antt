@@ -1,5 +1,5 @@
 -- The steps of the rest list.
-use Rattle.std.specs.Prelude.{◌≡◌, ℕ, ℤ, pos, ◌*ℤ◌, int_le, Bool, List, [], ◌∷◌, true, All, Option, Some, None, length, slice_get}
+use Rattle.std.specs.Prelude.{◌≡◌, ℕ, ℤ, pos, ◌*ℤ◌, int_le, Bool, List, [], ◌∷◌, true, All, Option, Some, None, slice_get}
 use Rattle.pf_geom.specs.declared.Point.{Point}
 use Rattle.pf_geom.specs.Plane.{len2_of}
 use Rattle.pf_model.specs.declared.Band.{Band}

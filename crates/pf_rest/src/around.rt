@@ -21,7 +21,7 @@ use pf_rules::star::{Spokes, first_right};
 use std::alloc::Global;
 
 /// A node with more triangles isn't contracted.
-const MOST_TRIANGLES: u64 = 60;
+const MOST_SPOKES: u64 = pf_model::MOST_SPOKES as u64;
 
 /// What stands for no place.
 const NO_PLACE: usize = 18_446_744_073_709_551_615;
@@ -258,7 +258,7 @@ pub fn gather_star(
     star.clear();
     arms.clear();
     let most = table.triangles(u);
-    if most > MOST_TRIANGLES {
+    if most > MOST_SPOKES {
         return false;
     }
     gather_lower(table, edges, chains, u, star, arms);

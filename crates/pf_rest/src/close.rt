@@ -39,9 +39,9 @@ pub fn are_close(table: &EdgeTable, u: u32, names: &[u32], limit: i64) -> bool
     ensures { (m : Undivided) (us : List Spoke) → Shows table.now.sides table.now.nodes.items m → IsLimit m.bands limit → AreAround us names.now
         → result ≡ true → AreClose m us }
 {
-    let at = table.place(u);
+    let at = table.point(u);
     for x in names {
-        if !is_within(at, table.place(*x), limit) {
+        if !is_within(at, table.point(*x), limit) {
             return false;
         }
     }

@@ -5,13 +5,13 @@ ghost use Rattle.pf_model.specs.Conforming.{IsConforming};
 ghost use Rattle.pf_model.specs.Lengths.{Edge};
 ghost use Rattle.pf_model.specs.Wishes.{terminal_of};
 ghost use Rattle.pf_edge_list.specs.declared.edges.Sided.{Sided};
-ghost use Rattle.pf_edge_list.specs.Edges.{sided_edge, IsSided, IsListed, IsSpot};
+ghost use Rattle.pf_edge_list.specs.Edges.{sided_edge, IsSided, IsListed, IsLocated};
 ghost use Rattle.pf_rest.specs.Rest.{AreAtEnds, IsEnd, IsFinite, LeadTo};
 ghost use Rattle.pf_edges.specs.Table.{AreInRange, Shows, Sides};
 
 use crate::lines::acting_chunk;
 use crate::walks::next_longer;
-use pf_edge_list::edges::{Edges, Sided, Spot, locate};
+use pf_edge_list::edges::{Edges, Located, Sided, locate};
 use pf_edges::table::EdgeTable;
 use pf_geom::NoMemory;
 use pf_judge::bisect::bisect_condition;
@@ -39,8 +39,8 @@ fn make_room(ends: &mut Vec<Option<End>>, edges: usize) -> Result<(), NoMemory>
 }
 
 // Where the walk from an edge ends, if that is noted.
-fn known_end(ends: &[Option<End>], at: Spot) -> Option<End>
-    ensures { IfSome result (λ end. (m : Undivided) (table : Sides) (edges : List Sided) (e : Edge) → IsSpot table edges e at → AreAtEnds m edges ends.now
+fn known_end(ends: &[Option<End>], at: Located) -> Option<End>
+    ensures { IfSome result (λ end. (m : Undivided) (table : Sides) (edges : List Sided) (e : Edge) → IsLocated table edges e at → AreAtEnds m edges ends.now
         → IsEnd m (terminal_of m e) end) }
 {
     let Some(place) = at.place else {
@@ -75,8 +75,8 @@ fn note_way(ends: &mut Vec<Option<End>>, way: &[usize], end: End)
 }
 
 // Appends the place of an edge, where it has one.
-fn push_place(way: &mut Vec<usize>, at: Spot) -> Result<(), NoMemory>
-    ensures { OnOk result ((m : Undivided) (table : Sides) (edges : List Sided) (e t : Edge) → IsSpot table edges e at → terminal_of m e ≡ t
+fn push_place(way: &mut Vec<usize>, at: Located) -> Result<(), NoMemory>
+    ensures { OnOk result ((m : Undivided) (table : Sides) (edges : List Sided) (e t : Edge) → IsLocated table edges e at → terminal_of m e ≡ t
         → LeadTo m edges way.old.items t → LeadTo m edges way.new.items t) }
 {
     if let Some(place) = at.place {
@@ -109,11 +109,11 @@ fn end_from(
     edges: &Edges,
     ends: &[Option<End>],
     way: &mut Vec<usize>,
-    e: Spot,
+    e: Located,
 ) -> Result<End, NoMemory>
     requires in_range { AreInRange table.now.nodes.items }
     requires listed { All (IsListed table.now.sides) edges.now.list.items }
-    requires spot { IsSpot table.now.sides edges.now.list.items (sided_edge e.edge) e }
+    requires located { IsLocated table.now.sides edges.now.list.items (sided_edge e.edge) e }
     requires empty { way.old.items ≡ [] }
     ensures end { IfOk result (λ end. (m : Undivided) → IsConforming m → Shows table.now.sides table.now.nodes.items m → m.bands ≡ bands.now
         → AreAtEnds m edges.now.list.items ends.now → IsFinite m (sided_edge e.edge) → IsEnd m (terminal_of m (sided_edge e.edge)) end) }
@@ -156,7 +156,7 @@ pub fn follow(
 {
     make_room(ends, edges.list.len())?;
     way.clear();
-    let e = Spot {
+    let e = Located {
         edge: edges.list[place],
         place: Some(place),
     };

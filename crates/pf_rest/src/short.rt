@@ -76,7 +76,7 @@ fn is_short(table: &EdgeTable, bands: &[Band], e: Span) -> bool
     ensures { (m : Undivided) → Shows table.now.sides table.now.nodes.items m → m.bands ≡ bands.now → result ≡ is_short m e.lo e.hi }
 {
     let least = least_length(table, bands, e.lo, e.hi);
-    is_below(table.place(e.lo), table.place(e.hi), least)
+    is_below(table.point(e.lo), table.point(e.hi), least)
 }
 
 // The first condition that the contraction of `u` onto `v` fails, which are the ends of the edge. The

@@ -66,8 +66,8 @@ moved_right : (v x y o x' y' o' : ℕ) → x ≢ v → x' ≢ v → y' ≢ v →
 moved_right v x y o x' y' o' n n1 n2 e = let k = (tri_of-edges v x v x' y' o' (subst (λ w. has_edge v x w ≡ true) e (tri_of-edge_one v x y o))).is in grind arith
 
 module _ (m : Undivided) (ok : IsConforming m) (u v : ℕ) (p : ContractPasses m u v) where
-  abbrev gone : List Tri
-  gone = star_tris u (spokes_of m u)
+  abbrev removed : List Tri
+  removed = star_tris u (spokes_of m u)
 
   abbrev new : List Tri
   new = moved_tris v (spokes_of m u)
@@ -75,14 +75,14 @@ module _ (m : Undivided) (ok : IsConforming m) (u v : ℕ) (p : ContractPasses m
   same_tri : (n r l o : ℕ) (s : Spoke) → s.right ≡ r → s.left ≡ l → s.owner ≡ o → tri_at n s ≡ tri_of n r l o
   same_tri n r l o s a b c = λ i. tri_of n (a i) (b i) (c i)
 
-  gone-is : AreRemoved (has_corner u) m.tris gone
-  gone-is =
+  removed-is : AreRemoved (has_corner u) m.tris removed
+  removed-is =
       record {
         stand = λ t h. (let r = map-means (tri_at u) (spokes_of m u) t h in subst (λ w. Contains m.tris w) r.2 (spokes-means m ok u r.0 r.1));
         passes = λ t h. (let r = map-means (tri_at u) (spokes_of m u) t h in subst (λ w. has_corner u w ≡ true) r.2 (tri_of-corner u u r.0.right r.0.left r.0.owner (inl refl)));
         all = λ t h e. (let a = keeps.corner_at u v t (least_first m ok t h) e in
             let s = spokes-has m ok u a.x a.y t.owner (subst (λ w. Contains m.tris w) (sym a.is) h) in
-            subst (λ w. Contains gone w) (same_tri u a.x a.y t.owner s.0 s.2 s.3 s.4 ∙ a.is) (map-in (tri_at u) (spokes_of m u) s.0 s.1));
+            subst (λ w. Contains removed w) (same_tri u a.x a.y t.owner s.0 s.2 s.3 s.4 ∙ a.is) (map-in (tri_at u) (spokes_of m u) s.0 s.1));
         once = once-map (tri_at u) (spokes_of m u) (spokes-rise m ok u) (λ r s h k e. (apex_same m ok u r.right r.left r.owner s.right s.left s.owner (spokes-means m ok u r h) (spokes-means m ok u s k) e).0);
       }
 
@@ -131,9 +131,9 @@ module _ (m : Undivided) (ok : IsConforming m) (u v : ℕ) (p : ContractPasses m
       back : (t : Tri) → Contains (keeps.after m ok u v p).tris t → Contains (replaced (has_corner u) new m.tris) t
       back t h = elim (insert_all_by-cases tri_lt t (keeps.added m ok u v p) (filter (λ t. not (has_corner u t)) m.tris) h) [ inl a ↦ insert_all_by-new tri_lt t new (filter (λ t. not (has_corner u t)) m.tris) (added-new t a) | inr b ↦ insert_all_by-old tri_lt t new (filter (λ t. not (has_corner u t)) m.tris) b ]
 
-  pub contract-exchanges : CanExchange gone new m.tris × (exchanged gone new m.tris ≡ (contracted m u v).tris)
+  pub contract-exchanges : CanExchange removed new m.tris × (exchanged removed new m.tris ≡ (contracted m u v).tris)
   contract-exchanges =
-      let e = exchange-is (has_corner u) m.tris gone new (sound-conforming m ok) gone-is (subst (λ l. AreSound l) (sym new-same) (sound-conforming (keeps.after m ok u v p) after)) new-rise in
+      let e = exchange-is (has_corner u) m.tris removed new (sound-conforming m ok) removed-is (subst (λ l. AreSound l) (sym new-same) (sound-conforming (keeps.after m ok u v p) after)) new-rise in
       (e.can, e.same ∙ new-same)
 
 pub contract-exchange : (m : Undivided) (chunk u v : ℕ) → IsConforming m → first_failing m chunk (Contract u v) ≡ None

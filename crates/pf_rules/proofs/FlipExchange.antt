@@ -64,14 +64,14 @@ flip-exchange m chunk a b l r ok pass el er = go (flip_passes m chunk a b pass).
                 crossed (min a b) (max a b) r.apex k f.corners_two.distinct
 
 -- the same, by names and lists that are equal to these
-pub flip-exchange-named : (m : Undivided) (chunk a b lo hi : ℕ) (l r : Side) (gone new : List Tri) → min a b ≡ lo → max a b ≡ hi → IsConforming m → first_failing m chunk (Flip a b) ≡ None → side_of m.tris lo hi ≡ Some l → side_of m.tris hi lo ≡ Some r → two_of lo hi l r ≡ gone → turned_of lo hi l r ≡ new
-    → CanExchange gone new m.tris × (exchanged gone new m.tris ≡ (flipped m (min a b) (max a b)).tris)
-flip-exchange-named m chunk a b lo hi l r gone new elo ehi ok pass el er eg en =
+pub flip-exchange-named : (m : Undivided) (chunk a b lo hi : ℕ) (l r : Side) (removed new : List Tri) → min a b ≡ lo → max a b ≡ hi → IsConforming m → first_failing m chunk (Flip a b) ≡ None → side_of m.tris lo hi ≡ Some l → side_of m.tris hi lo ≡ Some r → two_of lo hi l r ≡ removed → turned_of lo hi l r ≡ new
+    → CanExchange removed new m.tris × (exchanged removed new m.tris ≡ (flipped m (min a b) (max a b)).tris)
+flip-exchange-named m chunk a b lo hi l r removed new elo ehi ok pass el er eg en =
     let P : ℕ → Type 0 = λ x. side_of m.tris x hi ≡ Some l → side_of m.tris hi x ≡ Some r → CanExchange (two_of x hi l r) (turned_of x hi l r) m.tris × (exchanged (two_of x hi l r) (turned_of x hi l r) m.tris ≡ after) in
     let Q : ℕ → Type 0 = λ y. side_of m.tris (min a b) y ≡ Some l → side_of m.tris y (min a b) ≡ Some r → CanExchange (two_of (min a b) y l r) (turned_of (min a b) y l r) m.tris × (exchanged (two_of (min a b) y l r) (turned_of (min a b) y l r) m.tris ≡ after) in
     let h = subst P elo (subst Q ehi (flip-exchange m chunk a b l r ok pass)) el er in
     let R : List Tri → Type 0 = λ g. CanExchange g (turned_of lo hi l r) m.tris × (exchanged g (turned_of lo hi l r) m.tris ≡ after) in
-    let S : List Tri → Type 0 = λ n. CanExchange gone n m.tris × (exchanged gone n m.tris ≡ after) in
+    let S : List Tri → Type 0 = λ n. CanExchange removed n m.tris × (exchanged removed n m.tris ≡ after) in
     subst S en (subst R eg h)
   where
     after : List Tri

@@ -16,8 +16,8 @@ use Rattle.pf_model.specs.Exchange.{IsTurned, AreOnce, AreSound, SharesNoEdge, A
 use Rattle.pf_model.proofs.Exchange.{bool_cases}
 
 -- one of these has its first edge in the triangle
-abbrev pub struck : List Tri → Tri → Bool
-struck gone t = list_any (λ g. has_edge g.a g.b t) gone
+abbrev pub is_listed : List Tri → Tri → Bool
+is_listed removed t = list_any (λ g. has_edge g.a g.b t) removed
 
 pub filter-filter : (p q : Tri → Bool) (ts : List Tri) → filter p (filter q ts) ≡ filter (λ t. q t && p t) ts
 filter-filter p q [] = refl
@@ -35,7 +35,7 @@ neither : (a b : Bool) → (not a && not b) ≡ not (a || b)
 neither true b = refl
 neither false b = refl
 
-pub without_all-filter : (gone ts : List Tri) → without_all gone ts ≡ filter (λ t. not (struck gone t)) ts
+pub without_all-filter : (removed ts : List Tri) → without_all removed ts ≡ filter (λ t. not (is_listed removed t)) ts
 without_all-filter [] ts = sym (all ts)
   where
     all : (xs : List Tri) → filter (λ t. true) xs ≡ xs
@@ -43,8 +43,8 @@ without_all-filter [] ts = sym (all ts)
     all (x ∷ xs) = ap (λ l. x ∷ l) (all xs)
 without_all-filter (g ∷ gs) ts =
     without_all-filter gs (without g ts)
-    ∙ (filter-filter (λ t. not (struck gs t)) (λ t. not (has_edge g.a g.b t)) ts
-    ∙ filter-agree (λ t. not (has_edge g.a g.b t) && not (struck gs t)) (λ t. not (struck (g ∷ gs) t)) ts (λ t h. neither (has_edge g.a g.b t) (struck gs t)))
+    ∙ (filter-filter (λ t. not (is_listed gs t)) (λ t. not (has_edge g.a g.b t)) ts
+    ∙ filter-agree (λ t. not (has_edge g.a g.b t) && not (is_listed gs t)) (λ t. not (is_listed (g ∷ gs) t)) ts (λ t h. neither (has_edge g.a g.b t) (is_listed gs t)))
 
 apart : (b : Bool) → b ≡ true → b ≡ false → ⊥
 apart b e f = let k : true ≡ false = sym e ∙ f in absurd (cc)
@@ -92,30 +92,30 @@ sound-conforming m ok =
     }
 
 -- the list has just the triangles that are removed
-pub record AreRemoved (removed : Tri → Bool) (ts gone : List Tri) : Type 0 where
-  pub stand : (t : Tri) → Contains gone t → Contains ts t
-  pub passes : (t : Tri) → Contains gone t → removed t ≡ true
-  pub all : (t : Tri) → Contains ts t → removed t ≡ true → Contains gone t
-  pub once : AreOnce gone
+pub record AreRemoved (leaves : Tri → Bool) (ts removed : List Tri) : Type 0 where
+  pub stand : (t : Tri) → Contains removed t → Contains ts t
+  pub passes : (t : Tri) → Contains removed t → leaves t ≡ true
+  pub all : (t : Tri) → Contains ts t → leaves t ≡ true → Contains removed t
+  pub once : AreOnce removed
 
-pub record IsExchange (removed : Tri → Bool) (ts gone new : List Tri) : Type 0 where
-  pub can : CanExchange gone new ts
-  pub same : exchanged gone new ts ≡ replaced removed new ts
+pub record IsExchange (leaves : Tri → Bool) (ts removed new : List Tri) : Type 0 where
+  pub can : CanExchange removed new ts
+  pub same : exchanged removed new ts ≡ replaced leaves new ts
 
-pub exchange-is : (removed : Tri → Bool) (ts gone new : List Tri) → AreSound ts → AreRemoved removed ts gone → AreSound (replaced removed new ts) → IsRising tri_lt (replaced removed new ts) → IsExchange removed ts gone new
-exchange-is removed ts gone new sound out after up =
+pub exchange-is : (leaves : Tri → Bool) (ts removed new : List Tri) → AreSound ts → AreRemoved leaves ts removed → AreSound (replaced leaves new ts) → IsRising tri_lt (replaced leaves new ts) → IsExchange leaves ts removed new
+exchange-is leaves ts removed new sound out after up =
     record {
-      can = record { take = record { sound = sound; stand = out.stand; once = out.once }; fit = subst (λ l. AreFit new l) (sym kept) (fit-from_rising new (filter (λ t. not (removed t)) ts) up after.edges_once after.turned) };
+      can = record { take = record { sound = sound; stand = out.stand; once = out.once }; fit = subst (λ l. AreFit new l) (sym kept) (fit-from_rising new (filter (λ t. not (leaves t)) ts) up after.edges_once after.turned) };
       same = ap (insert_all_by tri_lt new) kept;
     }
   where
-    agree : (t : Tri) → Contains ts t → struck gone t ≡ removed t
-    agree t h = go (removed t) refl (struck gone t) refl
+    agree : (t : Tri) → Contains ts t → is_listed removed t ≡ leaves t
+    agree t h = go (leaves t) refl (is_listed removed t) refl
       where
-        go : (b : Bool) → removed t ≡ b → (c : Bool) → struck gone t ≡ c → struck gone t ≡ removed t
-        go true e c f = any-from (λ g. has_edge g.a g.b t) t gone (out.all t h e) (has_edge-first t) ∙ sym e
+        go : (b : Bool) → leaves t ≡ b → (c : Bool) → is_listed removed t ≡ c → is_listed removed t ≡ leaves t
+        go true e c f = any-from (λ g. has_edge g.a g.b t) t removed (out.all t h e) (has_edge-first t) ∙ sym e
         go false e false f = f ∙ sym e
-        go false e true f = absurd (let g = any-means (λ g. has_edge g.a g.b t) gone f in let same = sound.edges_once g.0 t g.0.a g.0.b (out.stand g.0 g.1) h (has_edge-first g.0) g.2 in apart _ (subst (λ w. removed w ≡ true) same (out.passes g.0 g.1)) e)
+        go false e true f = absurd (let g = any-means (λ g. has_edge g.a g.b t) removed f in let same = sound.edges_once g.0 t g.0.a g.0.b (out.stand g.0 g.1) h (has_edge-first g.0) g.2 in apart _ (subst (λ w. leaves w ≡ true) same (out.passes g.0 g.1)) e)
 
-    kept : without_all gone ts ≡ filter (λ t. not (removed t)) ts
-    kept = without_all-filter gone ts ∙ filter-agree (λ t. not (struck gone t)) (λ t. not (removed t)) ts (λ t h. ap not (agree t h))
+    kept : without_all removed ts ≡ filter (λ t. not (leaves t)) ts
+    kept = without_all-filter removed ts ∙ filter-agree (λ t. not (is_listed removed t)) (λ t. not (leaves t)) ts (λ t h. ap not (agree t h))

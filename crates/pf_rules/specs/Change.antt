@@ -16,6 +16,6 @@ pub record CanApply (m : Undivided) (n : ℕ) (op : Op) : Type 0 where
   pub passes : first_failing m chunk op ≡ None
 
 -- where the operation can be applied, it makes the second list of the first
-pub record IsChange (m : Undivided) (n : ℕ) (op : Op) (gone new : List Tri) : Type 0 where
-  pub fits : CanApply m n op → CanExchange gone new m.tris
-  pub makes : (can : CanApply m n op) → exchanged gone new m.tris ≡ (op_applied m can.ticket op).tris
+pub record IsChange (m : Undivided) (n : ℕ) (op : Op) (removed new : List Tri) : Type 0 where
+  pub fits : CanApply m n op → CanExchange removed new m.tris
+  pub makes : (can : CanApply m n op) → exchanged removed new m.tris ≡ (op_applied m can.ticket op).tris

@@ -8,11 +8,12 @@ ghost use Rattle.pf_model.specs.Lengths.{min2_of};
 ghost use Rattle.pf_model.specs.Conforming.{IsConforming};
 ghost use Rattle.pf_model.specs.Applied.{halves_of};
 ghost use Rattle.pf_model.specs.Exchange.{whole_of};
+ghost use Rattle.pf_model.specs.Limits.{most_spokes};
 ghost use Rattle.pf_rules.specs.EdgeSides.{AreEdgeSides};
 ghost use Rattle.pf_rules.specs.Lengths.{IsPlaced};
 ghost use Rattle.pf_rules.specs.Change.{IsChange};
 
-use crate::change::{Tris, turned};
+use crate::change::{Tris, least_first};
 use crate::edge_sides::EdgeSides;
 use crate::lengths::{Placed, least_between};
 use pf_geom::{Point, len2};
@@ -39,29 +40,36 @@ pub fn is_too_short(bands: &[Band], lo: Placed, hi: Placed) -> bool
 }
 
 // The triangle of the side left of the edge from `p` to `q`, and its halves, cut at `n`.
-fn halve(gone: &mut Tris, new: &mut Tris, n: u32, p: u32, q: u32, side: Option<Side>)
-    requires gone { array_vec_len gone.old < 60 }
+fn halve(removed: &mut Tris, new: &mut Tris, n: u32, p: u32, q: u32, side: Option<Side>)
+    requires removed { array_vec_len removed.old < most_spokes }
     requires new { array_vec_len new.old < 59 }
-    ensures gone { gone.new.items ≡ gone.old.items ++ whole_of p q (side) }
+    ensures removed { removed.new.items ≡ removed.old.items ++ whole_of p q (side) }
     ensures new { new.new.items ≡ new.old.items ++ halves_of n p q (side) }
-    ensures gone_len { array_vec_len gone.new ≤ array_vec_len gone.old + 1 }
+    ensures removed_len { array_vec_len removed.new ≤ array_vec_len removed.old + 1 }
     ensures new_len { array_vec_len new.new ≤ array_vec_len new.old + 2 }
 {
     if let Some(left) = side {
-        gone.push(turned(p, q, left.apex, left.owner));
-        new.push(turned(p, n, left.apex, left.owner));
-        new.push(turned(n, q, left.apex, left.owner));
+        removed.push(least_first(p, q, left.apex, left.owner));
+        new.push(least_first(p, n, left.apex, left.owner));
+        new.push(least_first(n, q, left.apex, left.owner));
     }
 }
 
 /// What a bisection that passes, by the new node `n`, makes of the triangles at its edge.
-pub fn bisect_change(n: u32, a: u32, b: u32, edge_sides: EdgeSides, gone: &mut Tris, new: &mut Tris)
-    ensures { (m : Undivided) → IsConforming m → AreEdgeSides m.tris a b edge_sides → IsChange m n (Bisect a b) gone.new.items new.new.items }
+pub fn bisect_change(
+    n: u32,
+    a: u32,
+    b: u32,
+    edge_sides: EdgeSides,
+    removed: &mut Tris,
+    new: &mut Tris,
+)
+    ensures { (m : Undivided) → IsConforming m → AreEdgeSides m.tris a b edge_sides → IsChange m n (Bisect a b) removed.new.items new.new.items }
 {
     let (lo, hi) = (a.min(b), a.max(b));
     let rising = edge_sides.rising(a, b);
-    gone.clear();
+    removed.clear();
     new.clear();
-    halve(gone, new, n, lo, hi, rising.left);
-    halve(gone, new, n, hi, lo, rising.right);
+    halve(removed, new, n, lo, hi, rising.left);
+    halve(removed, new, n, hi, lo, rising.right);
 }

@@ -12,7 +12,7 @@ pub type Tris = ArrayVec<Tri, 60>;
 /// The triangles that give way, and those that they give way to. It takes no memory.
 #[derive(Drop)]
 pub struct Change {
-    pub gone: Tris,
+    pub removed: Tris,
     pub new: Tris,
 }
 
@@ -20,14 +20,14 @@ impl Change {
     /// No triangles.
     pub fn new() -> Change {
         Change {
-            gone: Tris::new(),
+            removed: Tris::new(),
             new: Tris::new(),
         }
     }
 }
 
 /// The triangle `p`, `q`, `z`, written least corner first.
-pub fn turned(p: u32, q: u32, z: u32, owner: u16) -> Tri
+pub fn least_first(p: u32, q: u32, z: u32, owner: u16) -> Tri
     ensures { result ≡ tri_of p q z owner }
 {
     if p < q && p < z {

@@ -23,7 +23,7 @@ pub fn is_owned_by(side: Option<Side>, chunk: u16) -> bool
 }
 
 /// Whether the path turns left.
-pub fn turns_left(a: Point, b: Point, c: Point) -> bool
+pub fn is_counterclockwise(a: Point, b: Point, c: Point) -> bool
     requires a { IsInRange a }
     requires b { IsInRange b }
     requires c { IsInRange c }

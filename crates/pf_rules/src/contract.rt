@@ -8,10 +8,11 @@ ghost use Rattle.pf_rules.specs.EdgeSides.{AreEdgeSides};
 ghost use Rattle.pf_rules.specs.Star.{HasSpots, IsSpokePlaced};
 ghost use Rattle.pf_model.specs.declared.Spoke.{Spoke};
 ghost use Rattle.pf_model.specs.declared.Tri.{Tri};
+ghost use Rattle.pf_model.specs.Limits.{most_spokes};
 ghost use Rattle.pf_rules.specs.Contract.{IsShape, star_tris, moved_tris, is_without};
 
-use crate::change::{Tris, turned};
-use crate::conditions::turns_left;
+use crate::change::{Tris, least_first};
+use crate::conditions::is_counterclockwise;
 use crate::edge_sides::EdgeSides;
 use crate::scratch::Names;
 use crate::star::is_right;
@@ -81,7 +82,7 @@ fn is_inverted(v: u32, at: Point, s: &Spoke) -> bool
     requires spots { HasSpots s.now }
     ensures { result ≡ (is_without v s.now && not (is_positive (orient_of at s.now.right_at s.now.left_at))) }
 {
-    is_spoke_without(s, v) && !turns_left(at, s.right_at, s.left_at)
+    is_spoke_without(s, v) && !is_counterclockwise(at, s.right_at, s.left_at)
 }
 
 /// The first triangle of the star that would turn over with `v`, which stands there.
@@ -103,7 +104,7 @@ pub fn first_inverted(v: u32, at: Point, star: &[Spoke]) -> Option<Cond>
 
 /// The neighbours of the star's node, each once, in place of what the list held.
 pub fn names_around(star: &[Spoke], names: &mut Names)
-    requires { length star.now ≤ 60 }
+    requires { length star.now ≤ most_spokes }
     ensures { (p : ℕ → Bool) → least_that p names.new.items ≡ least_that p (neighbours star.now) }
 {
     names.clear();
@@ -129,24 +130,24 @@ pub fn lesser_of(least: Option<u32>, n: u32) -> Option<u32>
 
 /// The triangles of the star of `u`, in place of what the list held.
 pub fn triangles_of(u: u32, star: &[Spoke], tris: &mut Tris)
-    requires { length star.now ≤ 60 }
+    requires { length star.now ≤ most_spokes }
     ensures { tris.new.items ≡ star_tris u star.now }
 {
     tris.clear();
     for s in star {
-        tris.push(turned(u, s.right, s.left, s.owner));
+        tris.push(least_first(u, s.right, s.left, s.owner));
     }
 }
 
 /// Those of the star without `v`, with `v` in the node's place, in place of what the list held.
 pub fn triangles_moved(v: u32, star: &[Spoke], tris: &mut Tris)
-    requires { length star.now ≤ 60 }
+    requires { length star.now ≤ most_spokes }
     ensures { tris.new.items ≡ moved_tris v star.now }
 {
     tris.clear();
     for s in star {
         if is_spoke_without(s, v) {
-            tris.push(turned(v, s.right, s.left, s.owner));
+            tris.push(least_first(v, s.right, s.left, s.owner));
         }
     }
 }

@@ -12,7 +12,7 @@ ghost use Rattle.pf_rules.specs.Lengths.{IsPlaced};
 ghost use Rattle.pf_rules.specs.Star.{HasSpots, IsSpokePlaced};
 
 use crate::bisect::is_too_short;
-use crate::conditions::{is_owned_by, is_shorter, turns_left};
+use crate::conditions::{is_counterclockwise, is_owned_by, is_shorter};
 use crate::contract::{StarShape, first_inverted};
 use crate::edge_sides::EdgeSides;
 use crate::lengths::{Placed, longest_between};
@@ -61,7 +61,9 @@ pub fn flip_refusal(
     if edge_sides.left.is_none() || edge_sides.right.is_none() {
         return Some(Cond::OnBoundary);
     }
-    if !(turns_left(lo.at, at_right, at_left) && turns_left(hi.at, at_left, at_right)) {
+    if !(is_counterclockwise(lo.at, at_right, at_left)
+        && is_counterclockwise(hi.at, at_left, at_right))
+    {
         return Some(Cond::NotConvex);
     }
     if !is_shorter(at_left, at_right, lo.at, hi.at) {

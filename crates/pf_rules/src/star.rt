@@ -4,6 +4,7 @@ ghost use Rattle.std.specs.List.{list_any};
 ghost use Rattle.arrayvec.specs.ArrayVec.{array_vec_len};
 ghost use Rattle.pf_model.specs.Rising.{insert_by};
 ghost use Rattle.pf_model.specs.Stars.{spoke_lt, path_start, path_end};
+ghost use Rattle.pf_model.specs.Limits.{most_spokes};
 ghost use Rattle.pf_rules.specs.Star.{has_right, HasSpots};
 
 use arrayvec::ArrayVec;
@@ -65,7 +66,7 @@ pub fn last_left(spokes: &[Spoke]) -> Option<u32>
 
 /// Puts a spoke among these, by right.
 pub fn put_spoke(spokes: &mut Spokes, spoke: Spoke)
-    requires { array_vec_len spokes.old < 60 }
+    requires { array_vec_len spokes.old < most_spokes }
     ensures items { spokes.new.items ≡ insert_by spoke_lt spoke spokes.old.items }
     ensures len { array_vec_len spokes.new ≡ array_vec_len spokes.old + 1 }
     ensures spots { HasSpots spoke → All HasSpots spokes.old.items → All HasSpots spokes.new.items }

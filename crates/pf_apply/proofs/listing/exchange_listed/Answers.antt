@@ -8,11 +8,11 @@ use Rattle.pf_apply.proofs.listing.exchange_listed.Goals as goal
 pub enter_all-requires-clause-rising : goal.enter_all-requires-clause-rising
 enter_all-requires-clause-rising c =
     let Q : List Tri → Type 0 = λ l. IsRising tri_lt l in
-    subst Q (sym c.strike_all.ensures.struck) (rising-without_all c.args.gone.now c.args.tris.now.items c.requires.rising)
+    subst Q (sym c.remove_all.ensures.removed) (rising-without_all c.args.removed.now c.args.tris.now.items c.requires.rising)
 
 pub enter_all-requires-clause-room : goal.enter_all-requires-clause-room
 enter_all-requires-clause-room c =
-    let len = c.strike_all.ensures.len in
-    let cap = c.strike_all.ensures.capacity in
+    let len = c.remove_all.ensures.len in
+    let cap = c.remove_all.ensures.capacity in
     let room = c.requires.room in
     omega (arith, len, cap, room)

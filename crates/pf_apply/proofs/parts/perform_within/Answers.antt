@@ -26,8 +26,8 @@ exchange_listed-requires-clause-can c =
     let R : List Tri → Type 0 = λ ts. CanExchange c.deref.result.now c.deref-2.result.now ts in
     subst R (sym c.requires.can.parts.tris_are) (subst Q (sym c.deref-2.ensures.0) (subst P (sym c.deref.ensures.0) (c.requires.can.change.fits c.requires.can.can)))
 
-pub place-requires : goal.place-requires
-place-requires c = (c.perform_on_table.ensures.applied c.requires.can.mesh c.requires.can.parts.kept c.requires.can.can c.requires.can.change).in_range
+pub point-requires : goal.point-requires
+point-requires c = (c.perform_on_table.ensures.applied c.requires.can.mesh c.requires.can.parts.kept c.requires.can.can c.requires.can.change).in_range
 
 pub change_sites-requires-clause-rising : goal.change_sites-requires-clause-rising
 change_sites-requires-clause-rising c =
@@ -36,7 +36,7 @@ change_sites-requires-clause-rising c =
 
 pub returns-clause-applied : goal.returns-clause-applied
 returns-clause-applied c = λ m parts can h.
-    let gone = c.args.change.now.gone.items in
+    let removed = c.args.change.now.removed.items in
     let new = c.args.change.now.new.items in
     let table = c.perform_on_table.new.table in
     let kept = c.perform_on_table.ensures.applied m parts.kept can h in
@@ -44,10 +44,10 @@ returns-clause-applied c = λ m parts can h.
       kept = kept;
       sites_are =
           c.change_sites.ensures.changed
-          ∙ (ap (λ (ss : List Site). sites_after ss c.args.n c.place.result c.args.op) parts.sites_are
-          ∙ (ap (λ (p : Point). sites_after m.sites c.args.n p c.args.op) c.place.ensures.value ∙ sites-applied table.sides table.nodes.items m c.args.n c.args.op can kept));
+          ∙ (ap (λ (ss : List Site). sites_after ss c.args.n c.point.result c.args.op) parts.sites_are
+          ∙ (ap (λ (p : Point). sites_after m.sites c.args.n p c.args.op) c.point.ensures.value ∙ sites-applied table.sides table.nodes.items m c.args.n c.args.op can kept));
       tris_are =
-          c.exchange_listed.ensures.given_way
+          c.exchange_listed.ensures.exchanged
           ∙ (ap (λ (g : List Tri). exchanged g c.deref-2.result.now c.args.tris.now.items) c.deref.ensures.0
-          ∙ (ap (λ (n : List Tri). exchanged gone n c.args.tris.now.items) c.deref-2.ensures.0 ∙ (ap (exchanged gone new) parts.tris_are ∙ h.makes can)));
+          ∙ (ap (λ (n : List Tri). exchanged removed n c.args.tris.now.items) c.deref-2.ensures.0 ∙ (ap (exchanged removed new) parts.tris_are ∙ h.makes can)));
     }

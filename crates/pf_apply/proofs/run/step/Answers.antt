@@ -17,7 +17,7 @@ returns-in-Ok-perform-clause-applied c = λ m r.
     let p = sym (c.entry_refusal.ensures.refusal m r.kept r.bands_are) ∙ c.in_default.is in
     let change = c.entry_refusal.ensures.change m r.kept c.in_default.is in
     let can = can-apply old.sides old.nodes.items c.args.bands.now c.args.first_new (vec_capacity c.args.sites.now) (vec_capacity c.args.tris.now) m e r p in
-    (p, reached-more old.sides new.sides old.nodes.items new.nodes.items c.args.bands.now c.args.first_new (vec_capacity c.args.sites.now) (vec_capacity c.args.tris.now) (vec_capacity c.make_room.new.sites) (vec_capacity c.make_room.new.tris) m e c.entry_refusal.new.scratch.change.gone.items c.entry_refusal.new.scratch.change.new.items r p (c.in-Ok-perform.ensures.applied m r.kept can change) (change.makes can) c.in-Ok-perform.ensures.few c.in-Ok.ensures.sites_fit (c.in-Ok.ensures.tris_fit m.tris r.kept.shows.triangles))
+    (p, reached-more old.sides new.sides old.nodes.items new.nodes.items c.args.bands.now c.args.first_new (vec_capacity c.args.sites.now) (vec_capacity c.args.tris.now) (vec_capacity c.make_room.new.sites) (vec_capacity c.make_room.new.tris) m e c.entry_refusal.new.scratch.change.removed.items c.entry_refusal.new.scratch.change.new.items r p (c.in-Ok-perform.ensures.applied m r.kept can change) (change.makes can) c.in-Ok-perform.ensures.few c.in-Ok.ensures.sites_fit (c.in-Ok.ensures.tris_fit m.tris r.kept.shows.triangles))
 
 pub returns-in-Err-perform-clause-stopped : goal.returns-in-Err-perform-clause-stopped
 returns-in-Err-perform-clause-stopped c = λ m r.

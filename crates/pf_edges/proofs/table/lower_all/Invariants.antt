@@ -8,4 +8,4 @@ abbrev pub invariant-loop-t : goal.invariant-loop-t
 invariant-loop-t l =
     HasSamePlaces l.fn.nodes.items l.nodes.items
     × (vec_capacity l.fn.nodes ≤ vec_capacity l.nodes)
-    × (All IsTurned l.gone → (n : ℕ) → triangles_at l.nodes.items n - number_at n (drop l.t-index l.gone) ≡ triangles_at l.fn.nodes.items n - number_at n l.gone)
+    × (All IsTurned l.removed → (n : ℕ) → triangles_at l.nodes.items n - number_at n (drop l.t-index l.removed) ≡ triangles_at l.fn.nodes.items n - number_at n l.removed)

@@ -8,7 +8,7 @@ use Rattle.pf_rules.specs.Contract.{is_link_at, shape_rows, far_row}
 use Rattle.pf_rules.specs.Star.{IsSpokePlaced}
 use Rattle.pf_rules.proofs.Firsts.{first-before, first-after, first-last, no-link}
 use Rattle.pf_rules.proofs.StarSpots.{spokes-all-placed}
-use Rattle.pf_judge.proofs.SpokesShown.{shown-place}
+use Rattle.pf_judge.proofs.SpokesShown.{shown-point}
 use Rattle.pf_judge.proofs.contract.shape_condition.Goals as goal
 
 pub returns-in-Some : goal.returns-in-Some
@@ -18,7 +18,7 @@ returns-in-Some c = λ m u ok s bands f star shape close around link.
     let vs = spokes_of m v in
     let P : List Spoke → Type 0 = λ ss. All (IsSpokePlaced m) ss in
     let told = c.contract_refusal.ensures m u (side_of m.tris u v) (side_of m.tris v u) vs
-    (c.place.ensures.value ∙ shown-place c.args.table.now.sides c.args.table.now.nodes.items m s v)
+    (c.point.ensures.value ∙ shown-point c.args.table.now.sides c.args.table.now.nodes.items m s v)
     (subst P (sym star) (spokes-all-placed m u))
     shape
     (link ∙ around (is_link_at m u v vs))
@@ -32,7 +32,7 @@ returns-in-None c = λ m u ok s bands f star shape close around link.
     let vs = spokes_of m v in
     let P : List Spoke → Type 0 = λ ss. All (IsSpokePlaced m) ss in
     let told = c.contract_refusal.ensures m u (side_of m.tris u v) (side_of m.tris v u) vs
-    (c.place.ensures.value ∙ shown-place c.args.table.now.sides c.args.table.now.nodes.items m s v)
+    (c.point.ensures.value ∙ shown-point c.args.table.now.sides c.args.table.now.nodes.items m s v)
     (subst P (sym star) (spokes-all-placed m u))
     shape
     (link ∙ around (is_link_at m u v vs))

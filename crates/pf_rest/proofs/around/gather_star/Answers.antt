@@ -17,7 +17,7 @@ returns-clause-found c = λ m ok s told.
     let whole = part-all m ok c.args.u found part as_many in
     record {
       all = whole;
-      few = omega (arith, most, c.if-most-gt-MOST_TRIANGLES.false);
+      few = omega (arith, most, c.if-most-gt-MOST_SPOKES.false);
       fan = c.is_round.ensures m c.args.u ok (c.as_slice.ensures.value ∙ whole) told;
     }
 

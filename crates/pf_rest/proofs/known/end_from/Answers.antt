@@ -3,13 +3,13 @@ use Rattle.pf_model.specs.Wishes.{walked, terminal_of}
 use Rattle.pf_rules.specs.Lengths.{span_value}
 use Rattle.pf_edge_list.specs.Edges.{sided_edge}
 use Rattle.pf_rest.specs.Rest.{IsEnd}
-use Rattle.pf_rest.proofs.WalkSpots.{spot-self, lead-none}
+use Rattle.pf_rest.proofs.WalksLocated.{located-self, lead-none}
 use Rattle.pf_rest.proofs.WalkSteps.{walked-on, walked-ends}
 use Rattle.pf_rest.proofs.WalkEnds.{terminal-on, finite-same}
 use Rattle.pf_rest.proofs.known.end_from.Goals as goal
 
 pub walk-init : goal.walk-init
-walk-init c = (c.requires.spot, λ m s are finite. (ap (λ n. walked n m (sided_edge c.args.e.edge)) (c.len-most.ensures.len ∙ s.triangles.all), refl, lead-none m c.args.edges.now.list.items c.args.way.now.items (terminal_of m (sided_edge c.args.e.edge)) c.requires.empty))
+walk-init c = (c.requires.located, λ m s are finite. (ap (λ n. walked n m (sided_edge c.args.e.edge)) (c.len-most.ensures.len ∙ s.triangles.all), refl, lead-none m c.args.edges.now.list.items c.args.way.now.items (terminal_of m (sided_edge c.args.e.edge)) c.requires.empty))
 
 pub returns-in-Some-clause-end : goal.returns-in-Some-clause-end
 returns-in-Some-clause-end c = λ m ok s b are finite.
@@ -36,7 +36,7 @@ walk-preserved c =
     let edges = c.args.edges.now.list.items in
     let spot = c.walk.invariant.0 in
     let next = span_value c.in-Some-next_longer.next in (
-      spot-self table edges next c.locate-at.result c.locate-at.ensures,
+      located-self table edges next c.locate-at.result c.locate-at.ensures,
       λ m s are finite.
           let before = c.walk.invariant.1 m s are finite in
           let at = sided_edge c.walk.at.edge in

@@ -3,7 +3,7 @@ use Rattle.std.proofs.lemmas.Option.{get_or_from_slice_get}
 use Rattle.pf_model.specs.Wishes.{terminal_of}
 use Rattle.pf_edge_list.specs.Edges.{sided_edge}
 use Rattle.pf_rest.specs.Rest.{AreAtEnds, IsEnd, LeadTo}
-use Rattle.pf_edge_list.proofs.EdgeSpots.{listed-at}
+use Rattle.pf_edge_list.proofs.EdgesLocated.{listed-at}
 use Rattle.pf_rest.proofs.WalkEnds.{finite-listed}
 use Rattle.pf_rest.proofs.known.follow.Goals as goal
 

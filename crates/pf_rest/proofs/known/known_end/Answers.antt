@@ -1,4 +1,4 @@
-use Rattle.pf_rest.proofs.WalkSpots.{noted-read}
+use Rattle.pf_rest.proofs.WalksLocated.{noted-read}
 use Rattle.pf_rest.proofs.known.known_end.Goals as goal
 
 pub returns-then-place-ends : goal.returns-then-place-ends

@@ -1,7 +1,7 @@
 use Rattle.std.proofs.Common.{◌≡◌, ◌==◌, ℕ, arith, true, refl, sym, ◌∙◌}
 use Rattle.std.proofs.lemmas.Bool.Decides.{nat_tests}
 use Rattle.std.specs.Prelude.{vec_len}
-use Rattle.pf_rest.proofs.WalkSpots.{all-open}
+use Rattle.pf_rest.proofs.WalksLocated.{all-open}
 use Rattle.pf_rest.proofs.known.make_room.Goals as goal
 
 pub returns-in-Ok : goal.returns-in-Ok

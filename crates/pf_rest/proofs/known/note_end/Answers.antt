@@ -1,5 +1,5 @@
 use Rattle.std.proofs.Common.{◌<◌, length, arith}
-use Rattle.pf_rest.proofs.WalkSpots.{ends-noted}
+use Rattle.pf_rest.proofs.WalksLocated.{ends-noted}
 use Rattle.pf_rest.proofs.known.note_end.Goals as goal
 
 pub returns : goal.returns

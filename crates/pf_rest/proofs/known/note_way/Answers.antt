@@ -1,4 +1,4 @@
-use Rattle.pf_rest.proofs.WalkSpots.{lead-one}
+use Rattle.pf_rest.proofs.WalksLocated.{lead-one}
 use Rattle.pf_rest.proofs.known.note_way.Goals as goal
 
 pub loop-place-preserved : goal.loop-place-preserved

@@ -1,7 +1,7 @@
 use Rattle.std.proofs.Common.{◌∙◌, ap}
 use Rattle.std.specs.Prelude.{is_none}
 use Rattle.pf_edge_list.specs.Edges.{sided_edge}
-use Rattle.pf_rest.proofs.WalkSpots.{edge_sides-shown}
+use Rattle.pf_rest.proofs.WalksLocated.{edge_sides-shown}
 use Rattle.pf_rest.proofs.FlipAlone.{turning-sorted, none-told}
 use Rattle.pf_rest.proofs.lines.can_flip.Goals as goal
 

@@ -3,7 +3,7 @@ use Rattle.std.proofs.lemmas.List.{append-nil}
 use Rattle.std.proofs.lemmas.Option.{get_or_from_slice_get, slice_get_read}
 use Rattle.pf_model.specs.Wishes.{long_lines}
 use Rattle.pf_edge_list.specs.Edges.{sided_edge}
-use Rattle.pf_rest.proofs.WalkSpots.{no_line}
+use Rattle.pf_rest.proofs.WalksLocated.{no_line}
 use Rattle.pf_rest.proofs.lines.push_long_at.Goals as goal
 
 pub returns-then-not-is_long-clause-line : goal.returns-then-not-is_long-clause-line

@@ -1,7 +1,7 @@
 use Rattle.std.proofs.Common.{◌<◌, length, refl, arith}
 use Rattle.pf_model.specs.Wishes.{short_lines}
-use Rattle.pf_edge_list.proofs.EdgeSpots.{sided-at}
-use Rattle.pf_rest.proofs.WalkSpots.{lines-on}
+use Rattle.pf_edge_list.proofs.EdgesLocated.{sided-at}
+use Rattle.pf_rest.proofs.WalksLocated.{lines-on}
 use Rattle.pf_rest.proofs.lines.push_short.Goals as goal
 
 pub loop-place-init : goal.loop-place-init

@@ -8,5 +8,5 @@ use Rattle.pf_rest.proofs.short.is_short.Goals as goal
 
 pub returns : goal.returns
 returns c = λ m s e.
-    let y : c.is_below.result ≡ int_lt (len2_of c.place.result c.place-2.result) c.least_length-least.result = rw (to_z-of_z w64 c.least_length-least.result (search rules)) at c.is_below.ensures in
+    let y : c.is_below.result ≡ int_lt (len2_of c.point.result c.point-2.result) c.least_length-least.result = rw (to_z-of_z w64 c.least_length-least.result (search rules)) at c.is_below.ensures in
     grind (arith, common_steps, y)

@@ -3,7 +3,7 @@ use Rattle.std.specs.Prelude.{◌≤◌, min, max}
 use Rattle.pf_model.specs.Lengths.{edge_of}
 use Rattle.pf_edge_list.specs.Edges.{sided_edge}
 use Rattle.pf_rest.specs.Rest.{onto_hi, onto_lo}
-use Rattle.pf_edge_list.proofs.EdgeSpots.{listed-at, spot-at}
+use Rattle.pf_edge_list.proofs.EdgesLocated.{listed-at, located-at}
 use Rattle.pf_rest.proofs.ToldNotes.{to-hi, to-lo}
 use Rattle.pf_rest.proofs.short.note_onto.Goals as goal
 
@@ -13,7 +13,7 @@ returns-then-e-u c = λ m ok s b es star shape around clear are.
     let place = c.args.place in
     let e = c.index-e.result.now in
     let within : place < length list = omega (arith, c.if-place-len.false, c.len.ensures, c.args.edges.now.list.ok) in
-    let spot = spot-at c.args.table.now.sides list place e c.requires.listed within c.index-e.ensures in
+    let spot = located-at c.args.table.now.sides list place e c.requires.listed within c.index-e.ensures in
     let sorted = (listed-at c.args.table.now.sides list place e c.requires.listed within c.index-e.ensures).sorted in
     let above : c.args.u ≤ e.span.hi = omega (arith, sorted, c.if-e-u.true) in
     let lower : e.span.lo ≡ min c.args.u e.span.hi = omega (arith, sorted, c.if-e-u.true) in
@@ -28,7 +28,7 @@ returns-then-e-u-2 c = λ m ok s b es star shape around clear are.
     let place = c.args.place in
     let e = c.index-e.result.now in
     let within : place < length list = omega (arith, c.if-place-len.false, c.len.ensures, c.args.edges.now.list.ok) in
-    let spot = spot-at c.args.table.now.sides list place e c.requires.listed within c.index-e.ensures in
+    let spot = located-at c.args.table.now.sides list place e c.requires.listed within c.index-e.ensures in
     let sorted = (listed-at c.args.table.now.sides list place e c.requires.listed within c.index-e.ensures).sorted in
     let below : e.span.lo < c.args.u = omega (arith, sorted, c.if-e-u.false, c.if-e-u-2.true) in
     let lower : e.span.lo ≡ min c.args.u e.span.lo = omega (arith, below) in

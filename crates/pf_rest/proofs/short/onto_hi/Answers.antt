@@ -3,7 +3,7 @@ use Rattle.std.proofs.lemmas.Option.{get_or_from_slice_get}
 use Rattle.pf_model.specs.Conditions.{first_failing}
 use Rattle.pf_edge_list.specs.Edges.{sided_edge}
 use Rattle.pf_rest.specs.Rest.{told_of, onto_hi, AreTold}
-use Rattle.pf_edge_list.proofs.EdgeSpots.{listed-at}
+use Rattle.pf_edge_list.proofs.EdgesLocated.{listed-at}
 use Rattle.pf_rest.proofs.short.onto_hi.Goals as goal
 
 pub returns-in-Some-clause-cond : goal.returns-in-Some-clause-cond

@@ -22,6 +22,6 @@ returns c = λ m n ok edge_sides.
     let right : side_of m.tris hi lo ≡ Some r =
     ap (λ (i : ℕ). side_of m.tris i lo) c.max-hi.ensures ∙ (ap (side_of m.tris (max a b)) c.min-lo.ensures ∙ (sym rising.on_right ∙ c.in-Some-right.is))
     in
-    let gone : two_of lo hi l r ≡ c.push-2.new.self.items = rw (c.push-2.ensures.items, c.push.ensures.items, c.clear.ensures, c.turned.ensures, c.turned-2.ensures) refl in
-    let new : turned_of lo hi l r ≡ c.push-4.new.self.items = rw (c.push-4.ensures.items, c.push-3.ensures.items, c.clear-2.ensures, c.turned-3.ensures, c.turned-4.ensures) refl in
-    change-from m n (Flip a b) c.push-2.new.self.items c.push-4.new.self.items (λ can. flip-exchange-named m can.chunk a b lo hi l r c.push-2.new.self.items c.push-4.new.self.items (sym c.min-lo.ensures) (sym c.max-hi.ensures) ok can.passes left right gone new)
+    let removed : two_of lo hi l r ≡ c.push-2.new.self.items = rw (c.push-2.ensures.items, c.push.ensures.items, c.clear.ensures, c.least_first.ensures, c.least_first-2.ensures) refl in
+    let new : turned_of lo hi l r ≡ c.push-4.new.self.items = rw (c.push-4.ensures.items, c.push-3.ensures.items, c.clear-2.ensures, c.least_first-3.ensures, c.least_first-4.ensures) refl in
+    change-from m n (Flip a b) c.push-2.new.self.items c.push-4.new.self.items (λ can. flip-exchange-named m can.chunk a b lo hi l r c.push-2.new.self.items c.push-4.new.self.items (sym c.min-lo.ensures) (sym c.max-hi.ensures) ok can.passes left right removed new)

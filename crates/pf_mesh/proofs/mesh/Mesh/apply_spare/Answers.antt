@@ -39,7 +39,7 @@ can c =
 -- the parts are those of the mesh after it
 parts : (c : goal.After-perform_within) → AreParts c.perform_within.new.table.sides c.perform_within.new.table.nodes.items c.perform_within.new.sites.items c.perform_within.new.tris.items (op_applied (before c) c.args.e.now.ticket c.args.e.now.op)
 parts c =
-    let W : Undivided → Type 0 = λ x. IsChange x (c.first_new.result + c.args.e.now.ticket) c.args.e.now.op c.plan.new.scratch.change.gone.items c.plan.new.scratch.change.new.items in
+    let W : Undivided → Type 0 = λ x. IsChange x (c.first_new.result + c.args.e.now.ticket) c.args.e.now.op c.plan.new.scratch.change.removed.items c.plan.new.scratch.change.new.items in
     c.perform_within.ensures.applied (before c) record { kept = c.self.invariant; sites_are = refl; tris_are = refl } (can c) (subst W (sym (same-mesh c.self.view_is)) (c.plan.ensures.change (c.plan.ensures.cond ∙ c.requires.passes)))
 
 pub invariant_of-self : goal.invariant_of-self

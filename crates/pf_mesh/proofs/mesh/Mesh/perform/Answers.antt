@@ -18,7 +18,7 @@ parts c can =
     let i = c.self.inside in
     let r = c.reserve in
     let m = before c in
-    let W : Undivided → Type 0 = λ x. IsChange x c.args.n c.args.op c.args.change.now.gone.items c.args.change.now.new.items in
+    let W : Undivided → Type 0 = λ x. IsChange x c.args.n c.args.op c.args.change.now.removed.items c.args.change.now.new.items in
     let roomier = parts-roomier i.table.sides r.new.table.sides i.table.nodes.items r.new.table.nodes.items i.sites.items r.new.sites.items i.tris.items r.new.tris.items m r.ensures.sides r.ensures.nodes r.ensures.sites r.ensures.tris record { kept = c.self.invariant; sites_are = refl; tris_are = refl } in
     c.perform_within.ensures.applied m roomier can (subst W (sym (same-mesh c.self.view_is)) c.requires.change)
 

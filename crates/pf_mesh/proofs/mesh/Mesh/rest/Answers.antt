@@ -2,7 +2,7 @@ use Rattle.std.proofs.Common.{List, sym, subst}
 use Rattle.pf_model.specs.declared.Tri.{Tri}
 use Rattle.pf_edges.specs.Kept.{mesh_of}
 use Rattle.pf_edge_list.specs.Edges.{AreSided}
-use Rattle.pf_edge_list.proofs.EdgeSpots.{are-sided}
+use Rattle.pf_edge_list.proofs.EdgesLocated.{are-sided}
 use Rattle.pf_mesh.proofs.mesh.Mesh.rest.Goals as goal
 
 pub rest-requires-clause-sided : goal.rest-requires-clause-sided

@@ -11,15 +11,15 @@ use Rattle.pf_model.specs.Lengths.{Edge, is_long}
 use Rattle.pf_model.specs.Wishes.{acting_chunk, long_lines, terminal_of}
 use Rattle.pf_model.specs.Conditions.{first_failing}
 use Rattle.pf_edge_list.specs.declared.edges.Sided.{Sided}
-use Rattle.pf_edge_list.specs.declared.edges.Spot.{Spot}
+use Rattle.pf_edge_list.specs.declared.edges.Located.{Located}
 use Rattle.pf_rest.specs.declared.known.End.{End}
-use Rattle.pf_edge_list.specs.Edges.{sided_edge, IsSided, IsSpot}
+use Rattle.pf_edge_list.specs.Edges.{sided_edge, IsSided, IsLocated}
 use Rattle.pf_rest.specs.Rest.{IsEnd, AreAtEnds, LeadTo}
 use Rattle.pf_edges.specs.declared.table.Node.{Node}
 use Rattle.pf_rules.specs.EdgeSides.{AreEdgeSides}
 use Rattle.pf_edges.specs.Table.{Shows, Sides}
 use Rattle.pf_model.specs.declared.RestLine.TheVariants as line
-use Rattle.pf_edge_list.proofs.EdgeSpots.{some_same, none_some}
+use Rattle.pf_edge_list.proofs.EdgesLocated.{some_same, none_some}
 
 -- the triangles that the mesh has at the edge
 pub edge_sides-shown : (m : Undivided) (table : Sides) (nodes : List Node) (e : Sided) → Shows table nodes m → IsSided table e → AreEdgeSides m.tris e.span.lo e.span.hi e.edge_sides
@@ -32,19 +32,19 @@ all-open m edges ends none = record {
 }
 
 -- what is noted at the place of a spot
-pub noted-read : (at : Spot) (ends : List (Option End)) (i : ℕ) → at.place ≡ Some i → i < length ends
-    → IfSome (slice_index_or ends i None) (λ end. (m : Undivided) (table : Sides) (edges : List Sided) (e : Edge) → IsSpot table edges e at → AreAtEnds m edges ends → IsEnd m (terminal_of m e) end)
+pub noted-read : (at : Located) (ends : List (Option End)) (i : ℕ) → at.place ≡ Some i → i < length ends
+    → IfSome (slice_index_or ends i None) (λ end. (m : Undivided) (table : Sides) (edges : List Sided) (e : Edge) → IsLocated table edges e at → AreAtEnds m edges ends → IsEnd m (terminal_of m e) end)
 noted-read at ends i p within = go (slice_index_or ends i None) refl
   where
     go : (o : Option End) → slice_index_or ends i None ≡ o
-        → IfSome o (λ end. (m : Undivided) (table : Sides) (edges : List Sided) (e : Edge) → IsSpot table edges e at → AreAtEnds m edges ends → IsEnd m (terminal_of m e) end)
+        → IfSome o (λ end. (m : Undivided) (table : Sides) (edges : List Sided) (e : Edge) → IsLocated table edges e at → AreAtEnds m edges ends → IsEnd m (terminal_of m e) end)
     go None h = tt
     go (Some end) h = λ m table edges e spot are.
         subst (λ f. IsEnd m (terminal_of m f) end) spot.edge (are.each i at.edge end (spot.placed i p) (slice_get-get_or ends i None within ∙ ap Some h))
 
 -- a spot is where its edge is
-pub spot-self : (table : Sides) (edges : List Sided) (e : Edge) (at : Spot) → IsSpot table edges e at → IsSpot table edges (sided_edge at.edge) at
-spot-self table edges e at spot = subst (λ f. IsSpot table edges f at) (sym spot.edge) spot
+pub located-self : (table : Sides) (edges : List Sided) (e : Edge) (at : Located) → IsLocated table edges e at → IsLocated table edges (sided_edge at.edge) at
+located-self table edges e at spot = subst (λ f. IsLocated table edges f at) (sym spot.edge) spot
 
 -- what is noted, after an end more
 pub ends-noted : (m : Undivided) (edges : List Sided) (t : Edge) (old : List (Option End)) (place : ℕ) (end : End) → place < length old → AreAtEnds m edges old → LeadTo m edges (place ∷ []) t → IsEnd m t end → AreAtEnds m edges (set old place (Some end))

@@ -2,10 +2,10 @@ use Rattle.std.proofs.Common.{◌≡◌, ◌≢◌, ◌∙◌, List, sym, ap, su
 use Rattle.pf_model.specs.declared.Site.{Site}
 use Rattle.pf_apply.specs.Sites.{IsPlace}
 use Rattle.pf_apply.proofs.SiteLemmas.{without-past, without-other, without-found}
-use Rattle.pf_apply.proofs.sites.strike_site.Goals as goal
+use Rattle.pf_apply.proofs.sites.remove_site.Goals as goal
 
-pub returns-then-at-len-clause-struck : goal.returns-then-at-len-clause-struck
-returns-then-at-len-clause-struck c =
+pub returns-then-at-len-clause-removed : goal.returns-then-at-len-clause-removed
+returns-then-at-len-clause-removed c =
     let ss = c.args.sites.now.items in
     let value = c.deref.ensures.value in
     let long : length c.deref.result.now ≡ length ss = ap length value in
@@ -13,8 +13,8 @@ returns-then-at-len-clause-struck c =
     let P : List Site → Type 0 = λ l. IsPlace c.args.n l c.place-at.result in
     without-past c.args.n ss c.place-at.result (subst P value c.place-at.ensures) past
 
-pub returns-then-index-n-clause-struck : goal.returns-then-index-n-clause-struck
-returns-then-index-n-clause-struck c =
+pub returns-then-index-n-clause-removed : goal.returns-then-index-n-clause-removed
+returns-then-index-n-clause-removed c =
     let ss = c.args.sites.now.items in
     let value = c.deref.ensures.value in
     let long : length c.deref.result.now ≡ length ss = ap length value in
@@ -23,8 +23,8 @@ returns-then-index-n-clause-struck c =
     let Q : Site → Type 0 = λ s. s.name ≢ c.args.n in
     without-other c.args.n ss c.place-at.result c.index.result.now c.requires (subst P value c.place-at.ensures) within (subst Q c.index.ensures c.if-index-n.true)
 
-pub returns-clause-struck : goal.returns-clause-struck
-returns-clause-struck c =
+pub returns-clause-removed : goal.returns-clause-removed
+returns-clause-removed c =
     let ss = c.args.sites.now.items in
     let value = c.deref.ensures.value in
     let long : length c.deref.result.now ≡ length ss = ap length value in

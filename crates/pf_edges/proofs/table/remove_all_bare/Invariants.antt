@@ -4,9 +4,9 @@ use Rattle.indexmap.specs.IndexMap.{spare}
 use Rattle.pf_model.specs.Mesh.{has_edge}
 use Rattle.pf_edges.specs.Table.{side_at}
 use Rattle.pf_edges.specs.TableSteps.{side_bare, is_bare}
-use Rattle.pf_edges.proofs.table.strike_all_bare.Given as goal
+use Rattle.pf_edges.proofs.table.remove_all_bare.Given as goal
 
 abbrev pub invariant-loop-t : goal.invariant-loop-t
 invariant-loop-t l =
     (spare l.fn.sides ≤ spare l.sides)
-    × ((p q : ℕ) → side_bare (list_any (has_edge p q) (drop l.t-index l.gone)) (is_bare l.u l.v l.all p q) (side_at l.sides p q) ≡ side_bare (list_any (has_edge p q) l.gone) (is_bare l.u l.v l.all p q) (side_at l.fn.sides p q))
+    × ((p q : ℕ) → side_bare (list_any (has_edge p q) (drop l.t-index l.removed)) (is_bare l.u l.v l.all p q) (side_at l.sides p q) ≡ side_bare (list_any (has_edge p q) l.removed) (is_bare l.u l.v l.all p q) (side_at l.fn.sides p q))

@@ -3,10 +3,10 @@ use Rattle.std.specs.Prelude.{remove}
 use Rattle.pf_model.specs.declared.Tri.{Tri}
 use Rattle.pf_apply.specs.Listing.{IsRank}
 use Rattle.pf_apply.proofs.ListingLemmas.{rank-found, remove-without}
-use Rattle.pf_apply.proofs.listing.strike_listed.Goals as goal
+use Rattle.pf_apply.proofs.listing.remove_listed.Goals as goal
 
-pub returns-clause-struck : goal.returns-clause-struck
-returns-clause-struck c =
+pub returns-clause-removed : goal.returns-clause-removed
+returns-clause-removed c =
     let t = c.args.t in
     let ts = c.args.tris.now.items in
     let P : List Tri → Type 0 = λ l. IsRank t l c.rank-after.result in

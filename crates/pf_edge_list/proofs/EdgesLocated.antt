@@ -11,7 +11,7 @@ use Rattle.pf_model.specs.Conforming.{HasEdgesOnce, IsConforming}
 use Rattle.pf_model.proofs.Kept.{has_edge-first, side_of-found}
 use Rattle.pf_model.specs.Lengths.{Edge}
 use Rattle.pf_edge_list.specs.declared.edges.Sided.{Sided}
-use Rattle.pf_edge_list.specs.Edges.{sided_edge, AreSided, IsOnEdges, IsListed, StandsAt, IsSpot}
+use Rattle.pf_edge_list.specs.Edges.{sided_edge, AreSided, IsOnEdges, IsListed, StandsAt, IsLocated}
 use Rattle.pf_edges.specs.declared.table.Node.{Node}
 use Rattle.pf_edges.specs.Table.{Shows, Sides}
 
@@ -53,19 +53,19 @@ pub listed-at : (table : Sides) (edges : List Sided) (i : ℕ) (x : Sided) → A
 listed-at table edges i x all within is = subst (λ w. IsListed table w) (sym is) (all i x within)
 
 -- an edge of the list, with its place
-pub spot-at : (table : Sides) (edges : List Sided) (i : ℕ) (x : Sided) → All (IsListed table) edges → i < length edges → x ≡ slice_index_or edges i x → IsSpot table edges (sided_edge x) record { edge = x; place = Some i }
-spot-at table edges i x all within is = record {
+pub located-at : (table : Sides) (edges : List Sided) (i : ℕ) (x : Sided) → All (IsListed table) edges → i < length edges → x ≡ slice_index_or edges i x → IsLocated table edges (sided_edge x) record { edge = x; place = Some i }
+located-at table edges i x all within is = record {
   edge = refl;
   sided = (listed-at table edges i x all within is).sided;
   placed = λ j h. subst (λ k. slice_get edges k ≡ Some x) (some_same h) (slice_get_read edges (length edges) i x refl within is);
 }
 
-pub spot-listed : (table : Sides) (edges : List Sided) (e : Edge) (i : ℕ) (x : Sided) → All (IsListed table) edges → StandsAt edges e i → x ≡ slice_index_or edges i x → IsSpot table edges e record { edge = x; place = Some i }
-spot-listed table edges e i x all stands is =
+pub located-listed : (table : Sides) (edges : List Sided) (e : Edge) (i : ℕ) (x : Sided) → All (IsListed table) edges → StandsAt edges e i → x ≡ slice_index_or edges i x → IsLocated table edges e record { edge = x; place = Some i }
+located-listed table edges e i x all stands is =
     let within = stands-within edges e i stands in
     let got = slice_get_read edges (length edges) i x refl within is in
     let same : sided_edge x ≡ e = some_same (sym (ap (option_map sided_edge) got) ∙ stands) in
-    subst (λ f. IsSpot table edges f record { edge = x; place = Some i }) same (spot-at table edges i x all within is)
+    subst (λ f. IsLocated table edges f record { edge = x; place = Some i }) same (located-at table edges i x all within is)
 
 -- what stands at a place
 pub sided-at : (edges : List Sided) (i : ℕ) → i < length edges → (x : Sided) × (x ≡ slice_index_or edges i x) × (slice_get edges i ≡ Some x)

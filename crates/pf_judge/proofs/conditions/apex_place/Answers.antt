@@ -1,9 +1,0 @@
-use Rattle.std.proofs.Common.{◌∙◌, ap}
-use Rattle.pf_model.specs.Mesh.{place_of}
-use Rattle.pf_judge.proofs.SpokesShown.{shown-place}
-use Rattle.pf_judge.proofs.conditions.apex_place.Goals as goal
-
-pub returns-clause-value : goal.returns-clause-value
-returns-clause-value c = λ m s.
-    c.place.ensures.value
-    ∙ (shown-place c.args.table.now.sides c.args.table.now.nodes.items m s c.apex_of.result ∙ ap (place_of m) c.apex_of.ensures)
