@@ -12,6 +12,7 @@ mod limits;
 mod memory;
 mod rest;
 mod rows;
+mod traces;
 
 const KITE_NODE: &[u8] = b"4 2 0 0\n0 0 0\n1 8 0\n2 4 2\n3 4 -2\n";
 

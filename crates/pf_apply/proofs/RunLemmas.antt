@@ -96,7 +96,7 @@ without_all-length : (removed ts : List Tri) → length (without_all removed ts)
 without_all-length [] ts = omega arith
 without_all-length (g ∷ removed) ts = let a = without_all-length removed (without g ts) in let b = without-length g ts in omega (arith, a, b)
 
-exchanged-length : (removed new ts : List Tri) → length (exchanged removed new ts) ≤ length new + length ts
+pub exchanged-length : (removed new ts : List Tri) → length (exchanged removed new ts) ≤ length new + length ts
 exchanged-length removed new ts = let a = all-inserted-length new (without_all removed ts) in let b = without_all-length removed ts in omega (arith, a, b)
 
 -- what is reached after an entry

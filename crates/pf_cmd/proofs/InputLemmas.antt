@@ -8,7 +8,7 @@ use Rattle.pf_shelf.specs.Files.{held}
 use Rattle.pf_shelf.specs.Seen.{Seen}
 use Rattle.pf_say.specs.declared.fault.Fault.TheVariants.{TooLong}
 use Rattle.pf_say.specs.declared.place.Place.{Place}
-use Rattle.pf_say.specs.declared.place.Place.TheVariants.{Node, Ele, Part, Size, Journal, OutNode, OutEle, OutPart}
+use Rattle.pf_say.specs.declared.place.Place.TheVariants.{Node, Ele, Part, Size, Journal, Trace, OutNode, OutEle, OutPart}
 use Rattle.pf_say.specs.declared.stop.Trouble.TheVariants.{Missing}
 use Rattle.pf_say.specs.declared.stop.Stop.TheVariants.{Input, Limit, Device}
 use Rattle.pf_say.specs.Place.{Stems, name_of}
@@ -41,6 +41,7 @@ itself Ele = refl
 itself Part = refl
 itself Size = refl
 itself Journal = refl
+itself Trace = refl
 itself OutNode = refl
 itself OutEle = refl
 itself OutPart = refl

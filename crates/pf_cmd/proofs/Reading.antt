@@ -15,14 +15,17 @@ use Rattle.table_text.specs.declared.fault.TableErr.{TableErr}
 use Rattle.table_text.specs.declared.fault.TableErr.TheVariants as table
 use Rattle.journal_text.specs.declared.fault.JourErr.{JourErr}
 use Rattle.journal_text.specs.declared.fault.JourErr.TheVariants as jour
+use Rattle.trace_text.specs.declared.fault.TraceErr.{TraceErr}
+use Rattle.trace_text.specs.declared.fault.TraceErr.TheVariants as trace
+use Rattle.trace_text.specs.Trace.{Told}
 use Rattle.pf_say.specs.declared.place.Place.{Place}
 use Rattle.pf_say.specs.declared.stop.Trouble.TheVariants.{Missing, Unread, Unwritten, Memory}
 use Rattle.pf_say.specs.declared.stop.Stop.{Stop}
 use Rattle.pf_say.specs.declared.stop.Stop.TheVariants.{Input, Limit, Operation, Device}
 use Rattle.pf_say.specs.Place.{Stems, name_of}
 use Rattle.pf_say.specs.Stop.{memory_stop}
-use Rattle.pf_cmd.specs.Faults.{tri_stop, build_stop, table_stop, jour_stop}
-use Rattle.pf_cmd.specs.Input.{Held, files_in, without, ◌>>=◌, tri_accepted, build_accepted, table_accepted, jour_accepted}
+use Rattle.pf_cmd.specs.Faults.{tri_stop, build_stop, table_stop, jour_stop, trace_stop}
+use Rattle.pf_cmd.specs.Input.{Held, files_in, without, ◌>>=◌, tri_accepted, build_accepted, table_accepted, jour_accepted, trace_accepted}
 use Rattle.pf_cmd.specs.Causes.{IsOnlyRead, IsQuiet, IsAmong, IsCause, is_unread, is_missing, IsInner, Explains}
 
 pub before-trans : (old mid new : Option Files) → IsAsBefore old mid → IsAsBefore mid new → IsAsBefore old new
@@ -201,3 +204,12 @@ jour-refused r (jour.Word line column) h ne = ap jour_accepted (h (λ e. cc))
 jour-refused r (jour.Ticket line expected found) h ne = ap jour_accepted (h (λ e. cc))
 jour-refused r (jour.Extra line) h ne = ap jour_accepted (h (λ e. cc))
 jour-refused r jour.Memory h ne = absurd (ne refl)
+
+pub trace_stop-inner : (fault : TraceErr) → IsInner (trace_stop fault)
+trace_stop-inner (trace.Line line) = tt
+trace_stop-inner trace.Memory = tt
+
+-- a refused trace
+pub trace-refused : (r : Result Told TraceErr) (fault : TraceErr) → (fault ≢ trace.Memory → r ≡ Err fault) → trace_stop fault ≢ memory_stop → trace_accepted r ≡ Err (trace_stop fault)
+trace-refused r (trace.Line line) h ne = ap trace_accepted (h (λ e. cc))
+trace-refused r trace.Memory h ne = absurd (ne refl)

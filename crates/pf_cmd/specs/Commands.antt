@@ -7,14 +7,16 @@ use Rattle.pf_model.specs.Mesh.{Undivided}
 use Rattle.pf_model.specs.Replay.{replayed, first_refusal, IsLegal}
 use Rattle.pf_model.specs.Texts.{mesh_node_text, mesh_ele_text, replay_report, check_report}
 use Rattle.table_text.specs.Part.{part_text_of}
+use Rattle.trace_text.specs.Trace.{Told}
+use Rattle.trace_text.specs.Verdicts.{answer_text}
 use Rattle.pf_say.specs.declared.place.Place.{Place}
-use Rattle.pf_say.specs.declared.place.Place.TheVariants.{Node, Ele, Part, Size, Journal, OutNode, OutEle, OutPart}
+use Rattle.pf_say.specs.declared.place.Place.TheVariants.{Node, Ele, Part, Size, Journal, Trace, OutNode, OutEle, OutPart}
 use Rattle.pf_say.specs.declared.stop.Stop.{Stop}
 use Rattle.pf_say.specs.declared.stop.Stop.TheVariants.{Operation}
 use Rattle.pf_say.specs.Place.{Stems, name_of}
 use Rattle.pf_cmd.specs.declared.words.Task.{Task}
-use Rattle.pf_cmd.specs.declared.words.Task.TheVariants.{Replay, Check}
-use Rattle.pf_cmd.specs.Input.{Held, ◌>>=◌, Numbered, Parted, numbered_in, entries_in, parted_in}
+use Rattle.pf_cmd.specs.declared.words.Task.TheVariants as act
+use Rattle.pf_cmd.specs.Input.{Held, ◌>>=◌, Numbered, Parted, numbered_in, entries_in, parted_in, said_in}
 use Rattle.pf_cmd.specs.Output.{NamedText, Given, written_to}
 
 -- a command: what is to be done, with which stems, and what coordinates are multiplied by
@@ -25,13 +27,15 @@ pub record Command : Type 0 where
 
 -- the files that a command reads, in order
 abbrev pub reads_of : Task → List Place
-reads_of Replay = Node ∷ Ele ∷ Part ∷ Size ∷ Journal ∷ []
-reads_of Check = Node ∷ Ele ∷ Part ∷ []
+reads_of act.Replay = Node ∷ Ele ∷ Part ∷ Size ∷ Journal ∷ []
+reads_of act.Check = Node ∷ Ele ∷ Part ∷ []
+reads_of act.Trace = Node ∷ Ele ∷ Part ∷ Size ∷ Trace ∷ []
 
 -- the files that it writes, in order
 abbrev pub writes_of : Task → List Place
-writes_of Replay = OutNode ∷ OutEle ∷ OutPart ∷ []
-writes_of Check = []
+writes_of act.Replay = OutNode ∷ OutEle ∷ OutPart ∷ []
+writes_of act.Check = []
+writes_of act.Trace = []
 
 -- the name is that of none of these files
 abbrev pub AreUnnamed : Stems → List Place → List ℕ → Type 0
@@ -71,21 +75,37 @@ journalled_in scale files = do
   entries ← entries_in read.mesh.first_new files
   passed (first_refusal read.mesh entries) (record { base = read.base; mesh = read.mesh; entries = entries })
 
+-- what a trace works on: a mesh, and what the trace says
+pub record Traced : Type 0 where
+  pub mesh : Undivided
+  pub said : Told
+
+unfoldable pub traced_in : ℕ → Held → Result Traced Stop
+traced_in scale files = do
+  read ← numbered_in scale files
+  said ← said_in read.mesh.first_new read.mesh.chunks files
+  Ok record { mesh = read.mesh; said = said }
+
 -- what a command works on
 pub data Input : Type 0 where
   -- a mesh and the journal that is replayed on it
   to_replay : Journalled → Input
   -- a mesh and its chunks
   to_check : Parted → Input
+  -- a mesh and the trace that is run on it
+  to_trace : Traced → Input
 
 -- what a command works on, by its files as they are, or their first refusal in the order of reading
 abbrev pub task_input : Task → ℕ → Held → Result Input Stop
-task_input Replay scale files = do
+task_input act.Replay scale files = do
   input ← journalled_in scale files
   Ok (to_replay input)
-task_input Check scale files = do
+task_input act.Check scale files = do
   parted ← parted_in scale files
   Ok (to_check parted)
+task_input act.Trace scale files = do
+  input ← traced_in scale files
+  Ok (to_trace input)
 
 abbrev pub input_in : Command → Held → Result Input Stop
 input_in command files = task_input command.task command.scale files
@@ -110,8 +130,13 @@ replay_given stems input = replay_texts stems input.base (replayed input.mesh in
 abbrev pub check_given : Parted → Given
 check_given parted = record { writes = []; report = check_report parted.parts.chunks parted.listed.mesh }
 
--- what a command may give of what it works on: of a replay and of a check there is one such
+-- what a trace gives
+abbrev pub trace_given : Traced → Given
+trace_given input = record { writes = []; report = answer_text input.mesh input.said }
+
+-- what a command may give of what it works on: of a replay, of a check and of a trace there is one such
 abbrev pub MayGive : Task → Stems → Input → Given → Type 0
-MayGive Replay stems (to_replay input) given = IsLegal input.mesh input.entries × (given ≡ replay_given stems input)
-MayGive Check stems (to_check parted) given = given ≡ check_given parted
-MayGive task stems input given = ⊥
+MayGive act.Replay stems (to_replay input) given = IsLegal input.mesh input.entries × (given ≡ replay_given stems input)
+MayGive act.Check stems (to_check parted) given = given ≡ check_given parted
+MayGive act.Trace stems (to_trace input) given = given ≡ trace_given input
+MayGive other stems input given = ⊥

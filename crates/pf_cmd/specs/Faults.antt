@@ -8,10 +8,12 @@ use Rattle.table_text.specs.declared.fault.TableErr.{TableErr}
 use Rattle.table_text.specs.declared.fault.TableErr.TheVariants as table
 use Rattle.journal_text.specs.declared.fault.JourErr.{JourErr}
 use Rattle.journal_text.specs.declared.fault.JourErr.TheVariants as jour
-use Rattle.pf_say.specs.declared.fault.LineFault.TheVariants.{Short, Word, Number, Ticket, Range, Chunk, Band, Extra}
+use Rattle.trace_text.specs.declared.fault.TraceErr.{TraceErr}
+use Rattle.trace_text.specs.declared.fault.TraceErr.TheVariants as trace
+use Rattle.pf_say.specs.declared.fault.LineFault.TheVariants.{Short, Word, Number, Ticket, Range, Chunk, Band, Extra, Event}
 use Rattle.pf_say.specs.declared.fault.Fault.TheVariants.{Line, TooMany, Dimension, Order, Head, NoDefault, NoNode, Flat, EdgeTwice}
 use Rattle.pf_say.specs.declared.place.Place.{Place}
-use Rattle.pf_say.specs.declared.place.Place.TheVariants.{Node, Ele, Journal}
+use Rattle.pf_say.specs.declared.place.Place.TheVariants.{Node, Ele, Journal, Trace}
 use Rattle.pf_say.specs.declared.stop.Stop.{Stop}
 use Rattle.pf_say.specs.declared.stop.Stop.TheVariants.{Input}
 use Rattle.pf_say.specs.Stop.{memory_stop}
@@ -58,3 +60,8 @@ jour_stop (jour.Word line column) = Input Journal (Line line (Word column))
 jour_stop (jour.Ticket line expected found) = Input Journal (Line line (Ticket expected found))
 jour_stop (jour.Extra line) = Input Journal (Line line Extra)
 jour_stop jour.Memory = memory_stop
+
+-- a trace
+abbrev pub trace_stop : TraceErr → Stop
+trace_stop (trace.Line line) = Input Trace (Line line Event)
+trace_stop trace.Memory = memory_stop

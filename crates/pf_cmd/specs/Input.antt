@@ -14,16 +14,18 @@ use Rattle.table_text.specs.Part.{PartTable, part_of}
 use Rattle.table_text.specs.Size.{size_of}
 use Rattle.journal_text.specs.declared.fault.JourErr.{JourErr}
 use Rattle.journal_text.specs.Journal.{journal_of}
+use Rattle.trace_text.specs.declared.fault.TraceErr.{TraceErr}
+use Rattle.trace_text.specs.Trace.{Told, trace_of}
 use Rattle.pf_shelf.specs.Files.{held}
 use Rattle.pf_shelf.specs.Seen.{Seen}
 use Rattle.pf_say.specs.declared.fault.Fault.TheVariants.{TooLong}
 use Rattle.pf_say.specs.declared.place.Place.{Place}
-use Rattle.pf_say.specs.declared.place.Place.TheVariants.{Node, Ele, Part, Size, Journal, OutNode, OutEle, OutPart}
+use Rattle.pf_say.specs.declared.place.Place.TheVariants.{Node, Ele, Part, Size, Journal, Trace, OutNode, OutEle, OutPart}
 use Rattle.pf_say.specs.declared.stop.Trouble.TheVariants.{Missing}
 use Rattle.pf_say.specs.declared.stop.Stop.{Stop}
 use Rattle.pf_say.specs.declared.stop.Stop.TheVariants.{Input, Limit, Device}
 use Rattle.pf_say.specs.Place.{Stems, name_of}
-use Rattle.pf_cmd.specs.Faults.{tri_stop, build_stop, table_stop, jour_stop}
+use Rattle.pf_cmd.specs.Faults.{tri_stop, build_stop, table_stop, jour_stop, trace_stop}
 
 -- the files of a command by their places: the bytes of each, and none where it isn't held
 abbrev pub Held : Type 0
@@ -40,6 +42,7 @@ is_place Ele Ele = true
 is_place Part Part = true
 is_place Size Size = true
 is_place Journal Journal = true
+is_place Trace Trace = true
 is_place OutNode OutNode = true
 is_place OutEle OutEle = true
 is_place OutPart OutPart = true
@@ -152,3 +155,14 @@ entries_in vertices files = do
   bytes ← bytes_in Journal files
   entries ← jour_accepted (journal_of bytes)
   within_limit vertices entries
+
+-- what a trace says
+abbrev pub trace_accepted : Result Told TraceErr → Result Told Stop
+trace_accepted (Ok said) = Ok said
+trace_accepted (Err fault) = Err (trace_stop fault)
+
+-- the trace over a mesh of so many vertices and so many chunks
+unfoldable pub said_in : ℕ → ℕ → Held → Result Told Stop
+said_in vertices chunks files = do
+  bytes ← bytes_in Trace files
+  trace_accepted (trace_of vertices chunks bytes)

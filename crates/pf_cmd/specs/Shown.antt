@@ -8,7 +8,8 @@ use Rattle.pf_cmd.specs.declared.input.Parted.{Parted as CodedParted}
 use Rattle.pf_cmd.specs.declared.replay.Replayed.{Replayed as CodedReplayed}
 use Rattle.pf_cmd.specs.Input.{Held, Parted}
 use Rattle.pf_cmd.specs.Words.{Choice}
-use Rattle.pf_cmd.specs.Commands.{Command, Journalled, journalled_in}
+use Rattle.pf_cmd.specs.Commands.{Command, Journalled, journalled_in, Traced, traced_in}
+use Rattle.trace_text.specs.Verdicts.{answer_text}
 
 -- what a command asks for
 abbrev pub shown : CodedCommand → Command
@@ -30,3 +31,9 @@ pub record IsReplayed (scale : ℕ) (files : Held) (after : CodedReplayed) : Typ
   pub base : after.base ≡ input.base
   pub mesh : after.mesh.mesh ≡ replayed input.mesh input.entries
   pub operations : after.operations ≡ length input.entries
+
+-- the text that the trace of the files is answered by
+pub record IsTraced (scale : ℕ) (files : Held) (text : List ℕ) : Type 0 where
+  pub input : Traced
+  pub is_input : traced_in scale files ≡ Ok input
+  pub answer : text ≡ answer_text input.mesh input.said

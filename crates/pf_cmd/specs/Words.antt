@@ -3,7 +3,8 @@ use Rattle.std.specs.Prelude.{◌≡◌, ◌≤◌, ℕ, List, [], ◌∷◌, co
 use Rattle.std.specs.Borrow.{Bor}
 use Rattle.std.specs.Str.{bytes_eq}
 use Rattle.pf_lex.specs.Number.{natural_of}
-use Rattle.pf_cmd.specs.declared.words.Task.TheVariants.{Replay, Check}
+use Rattle.pf_cmd.specs.declared.words.Task.{Task}
+use Rattle.pf_cmd.specs.declared.words.Task.TheVariants.{Replay, Check, Trace}
 use Rattle.pf_cmd.specs.Commands.{Command}
 
 -- the words as texts
@@ -34,6 +35,10 @@ replay_choices = scale_choice ∷ []
 abbrev pub check_choices : List Choice
 check_choices = scale_choice ∷ []
 
+-- the options of a trace
+abbrev pub trace_choices : List Choice
+trace_choices = scale_choice ∷ []
+
 -- the value that a word gives an option: digits alone, in its range
 abbrev pub chosen : Choice → List ℕ → Option ℕ
 chosen choice word = elim (natural_of word) [ Ok value ↦ if nat_le choice.least value && nat_le value choice.most then Some value else None | Err fault ↦ None ]
@@ -60,13 +65,13 @@ value_of choice [] = choice.otherwise
 value_of choice (name ∷ []) = choice.otherwise
 value_of choice (name ∷ word ∷ words) = if bytes_eq name choice.name then unwrap_or (chosen choice word) choice.otherwise else value_of choice words
 
--- `BASE OUT`, and the options
-abbrev pub replay_of : List (List ℕ) → Option Command
-replay_of [] = None
-replay_of (base ∷ []) = None
-replay_of (base ∷ out ∷ options) =
-    if not (has_dash base) && not (has_dash out) && are_choices replay_choices options
-    then Some record { task = Replay; stems = record { base = base; out = out }; scale = value_of scale_choice options }
+-- `BASE OUT` or `BASE FILE`, and the options
+abbrev pub two_of : Task → List Choice → List (List ℕ) → Option Command
+two_of task choices [] = None
+two_of task choices (base ∷ []) = None
+two_of task choices (base ∷ out ∷ options) =
+    if not (has_dash base) && not (has_dash out) && are_choices choices options
+    then Some record { task = task; stems = record { base = base; out = out }; scale = value_of scale_choice options }
     else None
 
 -- `BASE`, and the options
@@ -81,6 +86,7 @@ check_of (base ∷ options) =
 abbrev pub command_of : List (List ℕ) → Option Command
 command_of [] = None
 command_of (name ∷ words) =
-    if bytes_eq name (codes "replay") then replay_of words
+    if bytes_eq name (codes "replay") then two_of Replay replay_choices words
     else if bytes_eq name (codes "check") then check_of words
+    else if bytes_eq name (codes "trace") then two_of Trace trace_choices words
     else None

@@ -1,12 +1,13 @@
 // The faults that readers find, as reasons to stop: one function a reader.
 ghost use Rattle.std.specs.Prelude.{◌≡◌};
 ghost use Rattle.pf_say.specs.declared.fault.Fault.TheVariants.{Line};
-ghost use Rattle.pf_cmd.specs.Faults.{most_in, tri_stop, build_stop, table_stop, jour_stop};
+ghost use Rattle.pf_cmd.specs.Faults.{most_in, tri_stop, build_stop, table_stop, jour_stop, trace_stop};
 
 use pf_journal::JourErr;
 use pf_mesh::BuildErr;
 use pf_say::{Fault, LineFault, Place, Stop, Trouble};
 use pf_tables::TableErr;
+use pf_trace::TraceErr;
 use tri_files::TriErr;
 
 // That memory ran out.
@@ -106,6 +107,20 @@ pub(crate) fn jour_stop(fault: JourErr) -> Stop
     };
     Stop::Input {
         place: Place::Journal,
+        fault,
+    }
+}
+
+/// A trace is refused.
+pub(crate) fn trace_stop(fault: TraceErr) -> Stop
+    ensures { result ≡ trace_stop fault }
+{
+    let fault = match fault {
+        TraceErr::Line { line } => at(line, LineFault::Event),
+        TraceErr::Memory => return NO_MEMORY,
+    };
+    Stop::Input {
+        place: Place::Trace,
         fault,
     }
 }

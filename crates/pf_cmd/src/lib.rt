@@ -13,6 +13,7 @@ mod perform;
 mod program;
 mod replay;
 mod say;
+mod trace;
 mod words;
 
 pub use program::run;

@@ -11,6 +11,7 @@ use crate::check::check_text;
 use crate::input::{Parted, read_parted};
 use crate::output::write_files;
 use crate::replay::{replay, replay_output};
+use crate::trace::trace_answer;
 use crate::words::{Command, Task};
 use pf_say::{Place, Stems, Stop, Trouble};
 use pf_shelf::Shelf;
@@ -35,6 +36,7 @@ pub(crate) fn perform<S: Shelf>(
     match command.task {
         Task::Replay => perform_replay(alloc, shelf, command.stems, command.scale),
         Task::Check => perform_check(alloc, shelf, command.stems, command.scale),
+        Task::Trace => perform_trace(alloc, shelf, command.stems, command.scale),
     }
 }
 
@@ -80,5 +82,23 @@ fn perform_check<S: Shelf>(
     let Parted { listed, parts } = read_parted(alloc, shelf, stems, scale)?;
     let Parts { chunks, .. } = parts;
     let report = check_text(alloc, &listed.mesh, chunks)?;
+    Ok(report)
+}
+
+fn perform_trace<S: Shelf>(
+    alloc: Global,
+    shelf: &mut S,
+    stems: Stems<'_>,
+    scale: u32,
+) -> Result<Vec<u8>, Stop>
+    requires scale_low { 1 ≤ scale }
+    requires scale_high { scale ≤ 1048576 }
+    ensures done { IfOk result (λ report. Finishes record { task = Task.Trace; stems = stems_of stems.entry; scale = scale }
+        (S.seen shelf.old) (S.seen shelf.new) report.items) }
+    ensures stops { IfErr result (Stops record { task = Task.Trace; stems = stems_of stems.entry; scale = scale }
+        (S.seen shelf.old) (S.seen shelf.new)) }
+    ensures others { (name : List ℕ) → held (S.seen shelf.new).told name ≡ held (S.seen shelf.old).told name }
+{
+    let report = trace_answer(alloc, shelf, stems, scale)?;
     Ok(report)
 }

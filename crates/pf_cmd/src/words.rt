@@ -1,7 +1,7 @@
 // What the words of the command line ask for.
 ghost use Rattle.std.specs.Prelude.{◌≡◌, ◌≤◌, map, is_some, IfSome};
 ghost use Rattle.std.specs.Option.{option_map};
-ghost use Rattle.pf_cmd.specs.Words.{texts_of, has_dash, scale_choice, replay_choices, check_choices, chosen, is_choice, has_word, are_choices, value_of, replay_of, check_of, command_of};
+ghost use Rattle.pf_cmd.specs.Words.{texts_of, has_dash, scale_choice, chosen, is_choice, has_word, are_choices, value_of, two_of, check_of, command_of};
 ghost use Rattle.pf_cmd.specs.Commands.{IsScaled};
 ghost use Rattle.pf_cmd.specs.Shown.{shown, choice_of};
 
@@ -15,6 +15,8 @@ pub(crate) enum Task {
     Replay,
     /// A mesh is checked.
     Check,
+    /// A trace is run on a mesh.
+    Trace,
 }
 
 /// A command, with the stems of its files. Coordinates that are read are multiplied by `scale`.
@@ -48,6 +50,9 @@ const REPLAY: [Choice; 1] = [SCALE];
 // The options of a check.
 const CHECK: [Choice; 1] = [SCALE];
 
+// The options of a trace.
+const TRACE: [Choice; 1] = [SCALE];
+
 /// The command that the words ask for, or none where they are in no command's form.
 pub(crate) fn command_of<'a>(words: &'a [&'a str]) -> Option<Command<'a>>
     ensures command { option_map shown result ≡ command_of (texts_of words.entry.now) }
@@ -57,26 +62,29 @@ pub(crate) fn command_of<'a>(words: &'a [&'a str]) -> Option<Command<'a>>
         return None;
     };
     if *name == "replay" {
-        replay_of(others)
+        two_of(Task::Replay, &REPLAY, others)
     } else if *name == "check" {
         check_of(others)
+    } else if *name == "trace" {
+        two_of(Task::Trace, &TRACE, others)
     } else {
         None
     }
 }
 
-fn replay_of<'a>(words: &'a [&'a str]) -> Option<Command<'a>>
-    ensures command { option_map shown result ≡ replay_of (texts_of words.entry.now) }
+// The command with two stems that these words ask for, with these options.
+fn two_of<'a>(task: Task, choices: &[Choice], words: &'a [&'a str]) -> Option<Command<'a>>
+    ensures command { option_map shown result ≡ two_of task (map choice_of choices.now) (texts_of words.entry.now) }
     ensures scaled { IfSome result (λ command. IsScaled (shown command)) }
 {
     let [base, out, options @ ..] = words else {
         return None;
     };
-    if has_dash(base) || has_dash(out) || !are_choices(&REPLAY, options) {
+    if has_dash(base) || has_dash(out) || !are_choices(choices, options) {
         return None;
     }
     Some(Command {
-        task: Task::Replay,
+        task,
         stems: Stems { base, out },
         scale: scale_of(options),
     })

@@ -1,2 +1,3 @@
 pub mod MeshLemmas
 mod Alike
+mod Entered

@@ -1,11 +1,12 @@
 //! The undivided mesh.
-ghost use Rattle.std.specs.Prelude.{◌≡◌, ◌≢◌, ℕ, ◌+◌, ◌<◌, ◌≤◌, ◌↔◌, All, length, take, Some, None, Err, OnOk, OnErr, IsOkAnd, IfOk, IfErr};
+ghost use Rattle.std.specs.Prelude.{◌≡◌, ◌≢◌, ℕ, ◌+◌, ◌<◌, ◌≤◌, ◌↔◌, All, length, map, take, Some, None, Err, OnOk, OnErr, IsOkAnd, IfOk, IfErr};
 ghost use Rattle.pf_model.specs.declared.Cond.{Cond};
 ghost use Rattle.pf_model.specs.Mesh.{point_of};
 ghost use Rattle.pf_model.specs.Conforming.{IsConforming, HasDefault};
 ghost use Rattle.pf_model.specs.Ends.{AreEndsLive, gone_end};
 ghost use Rattle.pf_model.specs.Conditions.{first_failing};
 ghost use Rattle.pf_model.specs.Applied.{IsFresh, applied, op_applied};
+ghost use Rattle.pf_model.specs.Stars.{star_of};
 ghost use Rattle.pf_model.specs.Replay.{HasTickets, IsLegal, first_refusal, replayed};
 ghost use Rattle.std.specs.Option.{option_map};
 ghost use Rattle.pf_model.specs.Sums.{area2_of, euler_of};
@@ -17,6 +18,7 @@ ghost use Rattle.pf_edges.specs.Kept.{mesh_of, IsKept};
 ghost use Rattle.pf_rules.specs.Change.{CanApply, IsChange};
 ghost use Rattle.pf_apply.specs.Run.{IsStopped, stop_of};
 
+use crate::entering::table_of;
 use pf_apply::parts;
 use pf_apply::relist::{relist_sites, relist_tris};
 use pf_apply::run::{ApplyErr, RunErr, run_entries};
@@ -26,8 +28,10 @@ use pf_geom::{NoMemory, Point};
 use pf_judge::operations::{condition, ends, plan};
 use pf_model::{Band, Cond, Entry, Op, RestLine, Site, Tri};
 use pf_rest::lines::rest;
+use pf_rings::Star;
 use pf_rules::change::Change;
 use pf_rules::scratch::Scratch;
+use pf_sweep::{star_at, stars};
 use std::alloc::Global;
 use std::marker::Model;
 
@@ -36,6 +40,17 @@ const MOST_NAMES: usize = pf_model::MOST_NAMES as usize;
 
 // The most triangles that an operation puts in.
 const MOST_SPOKES: usize = pf_model::MOST_SPOKES as usize;
+
+/// The parts of a mesh: the edge table, which shows it, and its lists.
+#[derive(Drop)]
+pub struct MeshParts {
+    pub first_new: u32,
+    pub table: EdgeTable,
+    pub sites: Vec<Site>,
+    pub tris: Vec<Tri>,
+    pub bands: Vec<Band>,
+    pub chunks: u16,
+}
 
 /// A conforming, positive mesh: whoever holds one holds a mesh whose triangles have live and distinct
 /// corners and turn left, whose directed edges stand in one triangle each, whose live nodes are all in a
@@ -67,8 +82,8 @@ impl Model for Mesh {
 }
 
 impl Mesh {
-    // The mesh with these parts.
-    pub(crate) fn of_kept(
+    /// The mesh with these parts: the table shows it, and the lists are its nodes and triangles.
+    pub fn of_kept(
         first_new: u32,
         table: EdgeTable,
         sites: Vec<Site>,
@@ -80,6 +95,46 @@ impl Mesh {
         ensures { result.mesh ≡ mesh_of first_new sites.items tris.items bands.items chunks }
     {
         Mesh {
+            first_new,
+            table,
+            sites,
+            tris,
+            bands,
+            chunks,
+        }
+    }
+
+    /// The mesh with these parts, which are those of a conforming mesh: so the nodes rise by name, and the
+    /// triangles by corners. `NoMemory` says that there was no room for its edges and the points of its names.
+    pub fn of_parts(
+        alloc: Global,
+        first_new: u32,
+        sites: Vec<Site>,
+        tris: Vec<Tri>,
+        bands: Vec<Band>,
+        chunks: u16,
+    ) -> Result<Mesh, NoMemory>
+        requires { IsConforming (mesh_of first_new sites.items tris.items bands.items chunks) }
+        ensures { IfOk result (λ m. m.mesh ≡ mesh_of first_new sites.items tris.items bands.items chunks) }
+    {
+        let table = table_of(alloc, &sites, &tris)?;
+        Ok(Mesh::of_kept(first_new, table, sites, tris, bands, chunks))
+    }
+
+    /// The parts of the mesh.
+    pub fn into_parts(self) -> MeshParts
+        ensures kept { IsKept result.table.sides result.table.nodes.items self.mesh }
+        ensures parts { mesh_of result.first_new result.sites.items result.tris.items result.bands.items result.chunks ≡ self.mesh }
+    {
+        let Mesh {
+            first_new,
+            table,
+            sites,
+            tris,
+            bands,
+            chunks,
+        } = self;
+        MeshParts {
             first_new,
             table,
             sites,
@@ -189,6 +244,24 @@ impl Mesh {
     {
         let lines = rest(&self.table, alloc, &self.tris, &self.bands)?;
         Ok(lines)
+    }
+
+    /// The star of a node: `None` exactly where the name isn't live. It may look at every triangle. `NoMemory`
+    /// says that memory ran out.
+    pub fn star(&self, alloc: Global, n: u32) -> Result<Option<Star>, NoMemory>
+        ensures { IfOk result (λ o. o ≡ star_of self.now.mesh n) }
+    {
+        let star = star_at(alloc, &self.sites, &self.tris, n)?;
+        Ok(star)
+    }
+
+    /// The stars of all live nodes, by rising name. For F triangles it takes time in proportion to F log F, and
+    /// to the greatest name. `NoMemory` says that memory ran out.
+    pub fn stars(&self, alloc: Global) -> Result<Vec<Star>, NoMemory>
+        ensures { IfOk result (λ v. map (λ s. Some s) v.items ≡ map (λ s. star_of self.now.mesh s.name) self.now.mesh.sites) }
+    {
+        let stars = stars(alloc, &self.sites, &self.tris)?;
+        Ok(stars)
     }
 
     // The first end of an operation that isn't live.

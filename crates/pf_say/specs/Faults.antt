@@ -1,7 +1,7 @@
 -- What is said of a file's fault, behind the file's name.
 use Rattle.std.specs.Prelude.{ℕ, List, ◌++◌, codes, decimal}
 use Rattle.pf_say.specs.declared.fault.LineFault.{LineFault}
-use Rattle.pf_say.specs.declared.fault.LineFault.TheVariants.{Short, Word, Number, Ticket, Range, Chunk, Band, Extra}
+use Rattle.pf_say.specs.declared.fault.LineFault.TheVariants.{Short, Word, Number, Ticket, Range, Chunk, Band, Extra, Event}
 use Rattle.pf_say.specs.declared.fault.Fault.{Fault}
 use Rattle.pf_say.specs.declared.fault.Fault.TheVariants.{Line, TooLong, TooMany, Dimension, Order, Head, NoDefault, NoNode, Flat, EdgeTwice}
 
@@ -19,6 +19,7 @@ line_fault_text Range = codes ": out of range\n"
 line_fault_text (Chunk found) = codes ": chunk " ++ decimal found ++ codes " above 63\n"
 line_fault_text Band = codes ": band refused\n"
 line_fault_text Extra = codes ": line after the end\n"
+line_fault_text Event = codes ": event refused\n"
 
 -- what is said of a fault. A corner that is no node can't come from a file, whose corners are in range
 abbrev pub fault_text : Fault → List ℕ

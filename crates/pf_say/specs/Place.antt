@@ -1,7 +1,7 @@
 -- The files of a command by their places, and their names.
-use Rattle.std.specs.Prelude.{ℕ, List, ◌++◌, codes}
+use Rattle.std.specs.Prelude.{ℕ, List, [], ◌++◌, codes}
 use Rattle.pf_say.specs.declared.place.Place.{Place}
-use Rattle.pf_say.specs.declared.place.Place.TheVariants.{Node, Ele, Part, Size, Journal, OutNode, OutEle, OutPart}
+use Rattle.pf_say.specs.declared.place.Place.TheVariants.{Node, Ele, Part, Size, Journal, Trace, OutNode, OutEle, OutPart}
 
 -- the two stems that the words name
 pub record Stems : Type 0 where
@@ -15,6 +15,7 @@ stem_of stems Ele = stems.base
 stem_of stems Part = stems.base
 stem_of stems Size = stems.base
 stem_of stems Journal = stems.out
+stem_of stems Trace = stems.out
 stem_of stems OutNode = stems.out
 stem_of stems OutEle = stems.out
 stem_of stems OutPart = stems.out
@@ -26,6 +27,7 @@ ending_of Ele = codes ".ele"
 ending_of Part = codes ".part"
 ending_of Size = codes ".size"
 ending_of Journal = codes ".journal"
+ending_of Trace = []
 ending_of OutNode = codes ".node"
 ending_of OutEle = codes ".ele"
 ending_of OutPart = codes ".part"

@@ -49,6 +49,8 @@ pub enum LineFault {
     Band,
     /// It follows the last line that is needed.
     Extra,
+    /// It is a line of a trace, and in no form.
+    Event,
 }
 
 /// Puts what is said of a fault behind the name of its file.
@@ -98,6 +100,7 @@ fn put_line_fault(text: &mut Vec<u8>, fault: LineFault) -> Result<(), AllocError
         LineFault::Chunk { found } => put(text, b": chunk ", found, b" above 63\n"),
         LineFault::Band => put_words(text, b": band refused\n"),
         LineFault::Extra => put_words(text, b": line after the end\n"),
+        LineFault::Event => put_words(text, b": event refused\n"),
     }
 }
 

@@ -18,6 +18,8 @@ pub enum Place {
     Size,
     /// The journal that is read.
     Journal,
+    /// The trace that is read. Its name is the stem alone.
+    Trace,
     /// The nodes that are written.
     OutNode,
     /// The triangles that are written.
@@ -43,7 +45,8 @@ impl Stems<'_> {
     {
         match place {
             Place::Node | Place::Ele | Place::Part | Place::Size => self.base,
-            Place::Journal | Place::OutNode | Place::OutEle | Place::OutPart => self.out,
+            Place::Journal | Place::Trace | Place::OutNode | Place::OutEle | Place::OutPart =>
+                self.out,
         }
     }
 
@@ -67,5 +70,6 @@ pub fn ending(place: Place) -> &'static str
         Place::Part | Place::OutPart => ".part",
         Place::Size => ".size",
         Place::Journal => ".journal",
+        Place::Trace => "",
     }
 }

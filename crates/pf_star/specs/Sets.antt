@@ -1,5 +1,6 @@
 -- Lists of held pairs that rise by node.
 use Rattle.std.specs.Prelude.{◌≡◌, ◌≢◌, ℕ, ◌<◌, ◌≤◌, List, [], ◌∷◌, ◌==◌, AllPairs, cond, nat_lt, not, filter, length, Option, Some, None, slice_index_or}
+use Rattle.pf_model.specs.Stars.{Star}
 use Rattle.pf_star_model.specs.Lent.{Held}
 
 -- the pairs rise by node
@@ -34,3 +35,7 @@ held_at n (h ∷ hs) = cond (h.node == n) (Some h) (held_at n hs)
 -- the pairs of the other nodes
 abbrev pub without_held : ℕ → List Held → List Held
 without_held n hs = filter (λ h. not (h.node == n)) hs
+
+-- the star, as the pair of its node
+abbrev pub pair_of : Star → Held
+pair_of s = record { node = s.node; star = Some s }

@@ -1,12 +1,17 @@
 //! A set of stars that are held, and lent.
-ghost use Rattle.std.specs.Prelude.{◌≡◌, ◌≤◌, [], true, false, OnErr, OnOk, insert, vec_len};
+ghost use Rattle.std.specs.Prelude.{◌≡◌, ℕ, ◌==◌, ◌≤◌, [], true, false, Contains, IfOk, OnErr, OnOk, insert, map, vec_len};
+ghost use Rattle.std.specs.List.{list_any};
 ghost use Rattle.std.specs.Option.{option_map};
-ghost use Rattle.pf_star_model.specs.Lent.{star_held};
+ghost use Rattle.pf_model.specs.Stars.{star_of};
+ghost use Rattle.pf_star_model.specs.Lent.{AgreesOn, Held, is_held, star_held};
 ghost use Rattle.pf_rings.specs.Lending.{star_in};
-ghost use Rattle.pf_star.specs.Sets.{IsPlace, IsAt, IsNotAt, AreRising, put_held, held_at, without_held};
+ghost use Rattle.pf_sweep.specs.Lists.{AreLists, mesh_by};
+ghost use Rattle.pf_star.specs.Sets.{IsPlace, IsAt, IsNotAt, AreRising, put_held, held_at, pair_of, without_held};
 
 use pf_geom::NoMemory;
+use pf_model::{Site, Tri};
 use pf_rings::{NewStar, Ring, Rings, Star};
+use pf_sweep::stars;
 use std::alloc::Global;
 use std::marker::Model;
 
@@ -117,7 +122,73 @@ fn take_pair(pairs: &mut Vec<NewStar>, n: u32) -> Option<NewStar>
     Some(pairs.remove(at))
 }
 
+// Each of the stars, as the pair of its node.
+fn pairs_of(alloc: Global, stars: Vec<Star>) -> Result<Vec<NewStar>, NoMemory>
+    ensures { IfOk result (λ v. v.items ≡ map pair_of stars.items) }
+{
+    let mut pairs = Vec::with_capacity(alloc, stars.len()).map_err(|_| NoMemory)?;
+    for star in stars {
+        let node = star.node();
+        let star = Some(star);
+        pairs.push(NewStar { node, star }).map_err(|_| NoMemory)?;
+    }
+    Ok(pairs)
+}
+
+// The star once more, where there is one.
+fn copied(alloc: Global, ring: Option<Ring<'_>>) -> Result<Option<Star>, NoMemory>
+    ensures { IfOk result (λ o. o ≡ option_map star_in ring.entry) }
+{
+    match ring {
+        Some(ring) => Ok(Some(ring.star().copied(alloc)?)),
+        None => Ok(None),
+    }
+}
+
+// The pairs of all live nodes of a mesh with these lists.
+fn all_pairs(alloc: Global, sites: &[Site], tris: &[Tri]) -> Result<Vec<NewStar>, NoMemory>
+    requires { AreLists sites.now tris.now }
+    ensures rises { IfOk result (λ v. AreRising v.items) }
+    ensures stars { IfOk result (λ v. (n : ℕ) → star_held v.items n ≡ star_of (mesh_by sites.now tris.now) n) }
+{
+    let stars = stars(alloc, sites, tris)?;
+    let pairs = pairs_of(alloc, stars)?;
+    Ok(pairs)
+}
+
+// Each node with what is held of it among all.
+fn chosen(alloc: Global, all: &[NewStar], nodes: &[u32]) -> Result<Vec<NewStar>, NoMemory>
+    requires { AreRising all.now }
+    ensures rises { IfOk result (λ v. AreRising v.items) }
+    ensures stars { IfOk result (λ v. (h : Held) → Contains v.items h → h.star ≡ star_held all.now h.node) }
+    ensures nodes { IfOk result (λ v. (n : ℕ) → is_held v.items n ≡ list_any (λ k. k == n) nodes.now) }
+{
+    let mut pairs = Vec::new(alloc);
+    for n in nodes {
+        let star = copied(alloc, find_ring(all, *n))?;
+        put_pair(&mut pairs, NewStar { node: *n, star })?;
+    }
+    Ok(pairs)
+}
+
 impl StarSet {
+    /// These nodes of a mesh with these lists: each with its star there, or as one without where it isn't live.
+    /// All stars are made once, and those of the nodes are copied. `NoMemory` says that memory ran out.
+    pub fn of(
+        alloc: Global,
+        sites: &[Site],
+        tris: &[Tri],
+        nodes: &[u32],
+    ) -> Result<StarSet, NoMemory>
+        requires { AreLists sites.now tris.now }
+        ensures agrees { IfOk result (λ s. AgreesOn s (mesh_by sites.now tris.now)) }
+        ensures held { IfOk result (λ s. (n : ℕ) → is_held s n ≡ list_any (λ k. k == n) nodes.now) }
+    {
+        let all = all_pairs(alloc, sites, tris)?;
+        let pairs = chosen(alloc, &all, nodes)?;
+        Ok(StarSet { pairs })
+    }
+
     /// A set without nodes, which takes its memory from this allocator.
     pub fn new(alloc: Global) -> StarSet
         ensures { result ≡ [] }

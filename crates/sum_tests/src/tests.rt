@@ -4,6 +4,7 @@ ghost use Rattle.pf_geom.specs.Plane.{IsInRange};
 ghost use Rattle.pf_model.specs.Applied.{IsFresh};
 
 mod cover;
+mod random;
 mod sums;
 
 use pf_geom::Point;

@@ -1,15 +1,17 @@
 -- A trace that was read as far as some line: what the whole text says, by what was read and what is left.
-use Rattle.std.proofs.Common.{◌≡◌, ℕ, ◌+◌, Bool, true, List, [], ◌∷◌, ◌++◌, refl, ap, sym, ◌∙◌, append-nil}
-use Rattle.std.specs.Prelude.{Option, Some, None, Result, Ok, Err}
+use Rattle.std.proofs.Common.{◌≡◌, ℕ, ◌+◌, ◌*◌, Bool, true, List, [], ◌∷◌, ◌++◌, refl, ap, sym, subst, ◌∙◌, append-nil}
+use Rattle.std.specs.Prelude.{Option, Some, None, Result, Ok, Err, IfOk, leb, ◌&&◌}
+use Rattle.std.proofs.lemmas.Bool.{and_parts, leb-true}
 use Rattle.pf_lex.specs.Text.{TextLine, text_lines}
 use Rattle.pf_core_model.specs.declared.event.Event.{Event}
 use Rattle.row_text.specs.Rows.{◌>>=◌}
 use Rattle.row_text.proofs.Reading.{IsReadTo, read_to-none, read_to-more, read_to-fault, read_to-end}
 use Rattle.trace_text.specs.declared.read.Limits.{Limits}
+use Rattle.trace_text.specs.declared.read.Trace.{Trace}
 use Rattle.trace_text.specs.declared.fault.TraceErr.{TraceErr}
 use Rattle.trace_text.specs.declared.fault.TraceErr.TheVariants as fault
 use Rattle.trace_text.specs.Events.{event_of}
-use Rattle.trace_text.specs.Trace.{head_of, said_on, events_on, told_below, trace_on, trace_of}
+use Rattle.trace_text.specs.Trace.{are_kept, AreWithin, head_of, said_on, events_on, told_below, trace_on, trace_of}
 
 -- nothing more is said of the events that were read
 abbrev pub Any : List Event → Type 0
@@ -67,3 +69,16 @@ trace-bad first_new chunks bytes head lines first is = ap (trace_on first_new ch
 pub trace-below : (first_new chunks : ℕ) (bytes : List ℕ) (head : TextLine) (lines : List TextLine) (l : Limits) → text_lines bytes ≡ head ∷ lines → Some l ≡ head_of first_new chunks head.words → trace_of first_new chunks bytes ≡ told_below l lines
 unfolding trace_on
 trace-below first_new chunks bytes head lines l first is = ap (trace_on first_new chunks) first ∙ ap (λ (x : Option Limits). said_on head.line x >>= (λ l. told_below l lines)) (sym is)
+
+-- limits that are kept
+pub kept-within : (l : Limits) (first_new chunks : ℕ) → are_kept l first_new chunks ≡ true → AreWithin first_new chunks l.budget l.workers
+kept-within l first_new chunks kept =
+    let a = and_parts (leb (first_new + l.budget) 1048576) (leb (chunks * (first_new + l.budget)) 4194304 && (leb 1 l.workers && leb l.workers 64)) kept in
+    let b = and_parts (leb (chunks * (first_new + l.budget)) 4194304) (leb 1 l.workers && leb l.workers 64) a.1 in
+    let d = and_parts (leb 1 l.workers) (leb l.workers 64) b.1 in
+    record { names = leb-true _ _ a.0; copies = leb-true _ _ b.0; some_worker = leb-true _ _ d.0; few_workers = leb-true _ _ d.1 }
+
+-- a trace with these limits is within them
+pub trace-within : (first_new chunks : ℕ) (l : Limits) (read : Result Trace TraceErr) → IfOk read (λ t. (t.budget ≡ l.budget) × (t.workers ≡ l.workers)) → AreWithin first_new chunks l.budget l.workers → IfOk read (λ t. AreWithin first_new chunks t.budget t.workers)
+trace-within first_new chunks l (Ok t) same within = subst (λ b. AreWithin first_new chunks b t.workers) (sym same.0) (subst (λ w. AreWithin first_new chunks l.budget w) (sym same.1) within)
+trace-within first_new chunks l (Err fault) same within = tt

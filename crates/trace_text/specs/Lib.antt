@@ -1,3 +1,4 @@
 pub mod Parts
 pub mod Events
 pub mod Trace
+pub mod Verdicts

@@ -1,5 +1,5 @@
 -- The trace: the limits and the events that a text of it says.
-use Rattle.std.specs.Prelude.{ℕ, ◌+◌, ◌*◌, Bool, ◌&&◌, nat_le, if◌then◌else◌, List, [], ◌∷◌, Option, Some, None, Result, Ok, Err, codes}
+use Rattle.std.specs.Prelude.{ℕ, ◌≤◌, ◌+◌, ◌*◌, Bool, ◌&&◌, nat_le, if◌then◌else◌, List, [], ◌∷◌, Option, Some, None, Result, Ok, Err, codes}
 use Rattle.std.specs.Str.{bytes_eq}
 use Rattle.pf_lex.specs.Text.{Word, TextLine, text_lines}
 use Rattle.row_text.specs.Rows.{◌>>=◌}
@@ -23,6 +23,13 @@ told t = record { budget = t.budget; workers = t.workers; events = t.events.item
 -- the names and the copies are within their limits, and there are from 1 to 64 workers
 abbrev pub are_kept : Limits → ℕ → ℕ → Bool
 are_kept l first_new chunks = nat_le (first_new + l.budget) 1048576 && (nat_le (chunks * (first_new + l.budget)) 4194304 && (nat_le 1 l.workers && nat_le l.workers 64))
+
+-- so many operations and workers are within the limits
+pub record AreWithin (first_new chunks budget workers : ℕ) : Type 0 where
+  pub names : first_new + budget ≤ 1048576
+  pub copies : chunks * (first_new + budget) ≤ 4194304
+  pub some_worker : 1 ≤ workers
+  pub few_workers : workers ≤ 64
 
 -- the limits, where both numbers are there and the limits are kept
 abbrev pub kept_limits : ℕ → ℕ → Option ℕ → Option ℕ → Option Limits

@@ -1,8 +1,8 @@
 //! A trace's text, read.
-ghost use Rattle.std.specs.Prelude.{◌≡◌, ◌≢◌, ◌≤◌, ◌<◌, ◌∷◌, length, Ok, Err, IfOk, IfErr};
+ghost use Rattle.std.specs.Prelude.{◌≡◌, ◌≢◌, ◌≤◌, ◌<◌, ◌∷◌, length, Ok, Err, IfOk, IfErr, IfSome};
 ghost use Rattle.pf_lex.specs.Token.{word_of};
 ghost use Rattle.row_text.specs.Rows.{Reads};
-ghost use Rattle.trace_text.specs.Trace.{head_of, events_on, told_below, trace_of, told};
+ghost use Rattle.trace_text.specs.Trace.{head_of, events_on, told_below, trace_of, told, AreWithin};
 
 use crate::event::event;
 use crate::fault::TraceErr;
@@ -34,6 +34,7 @@ pub fn read_trace(
 ) -> Result<Trace, TraceErr>
     requires { length bytes.now ≤ 268435456 }
     ensures value { IfOk result (λ t. trace_of first_new chunks bytes.now ≡ Ok (told t)) }
+    ensures within { IfOk result (λ t. AreWithin first_new chunks t.budget t.workers) }
     ensures first_fault { IfErr result (λ fault. fault ≢ TraceErr.Memory → trace_of first_new chunks bytes.now ≡ Err fault) }
     ensures refused { IfErr (trace_of first_new chunks bytes.now) (λ fault. result ≡ Err fault) }
 {
@@ -68,7 +69,8 @@ fn are_kept(limits: Limits, first_new: u32, chunks: u16) -> bool
 
 // The limits of these words, where they are kept.
 fn head_words(budget: Token<'_>, workers: Token<'_>, first_new: u32, chunks: u16) -> Option<Limits>
-    ensures { result ≡ Rattle.trace_text.specs.Trace.limits_of first_new chunks (word_of budget.entry) (word_of workers.entry) }
+    ensures value { result ≡ Rattle.trace_text.specs.Trace.limits_of first_new chunks (word_of budget.entry) (word_of workers.entry) }
+    ensures within { IfSome result (λ l. AreWithin first_new chunks l.budget l.workers) }
 {
     let budget = number(u32::MAX, budget)?;
     let workers = number(u32::MAX, workers)?;
@@ -82,7 +84,8 @@ fn head_words(budget: Token<'_>, workers: Token<'_>, first_new: u32, chunks: u16
 
 // What the first line says.
 fn head(mut words: Words<'_>, first_new: u32, chunks: u16) -> Option<Limits>
-    ensures { result ≡ head_of first_new chunks words.entry.words }
+    ensures value { result ≡ head_of first_new chunks words.entry.words }
+    ensures within { IfSome result (λ l. AreWithin first_new chunks l.budget l.workers) }
 {
     let (Some(name), Some(budget), Some(other), Some(workers), None) = (
         words.next(),
@@ -102,7 +105,8 @@ fn head(mut words: Words<'_>, first_new: u32, chunks: u16) -> Option<Limits>
 
 // The trace of these limits, with the events of the lines below the first.
 fn below(alloc: Global, lines: Lines<'_>, limits: Limits) -> Result<Trace, TraceErr>
-    ensures { Reads TraceErr.Memory told result (told_below limits lines.entry.left) }
+    ensures reads { Reads TraceErr.Memory told result (told_below limits lines.entry.left) }
+    ensures same { IfOk result (λ t. (t.budget ≡ limits.budget) × (t.workers ≡ limits.workers)) }
 {
     match events(alloc, lines) {
         Ok(events) => Ok(Trace {

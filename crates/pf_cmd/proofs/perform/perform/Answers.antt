@@ -21,3 +21,12 @@ returns-in-Check-clause-stops g c = subst (λ t. IfErr c.perform_check.result (S
 
 pub returns-in-Check-clause-others : goal.returns-in-Check-clause-others
 returns-in-Check-clause-others g c = λ name h. c.perform_check.ensures.others name
+
+pub returns-in-Trace-clause-done : goal.returns-in-Trace-clause-done
+returns-in-Trace-clause-done g c = subst (λ t. IfOk c.perform_trace.result (λ report. Finishes (record { task = t; stems = stems_of c.args.command.stems; scale = c.args.command.scale }) (g.S.Shelf.seen c.args.shelf.now) (g.S.Shelf.seen c.perform_trace.new.shelf) report.items)) (sym c.in-Trace.is) c.perform_trace.ensures.done
+
+pub returns-in-Trace-clause-stops : goal.returns-in-Trace-clause-stops
+returns-in-Trace-clause-stops g c = subst (λ t. IfErr c.perform_trace.result (Stops (record { task = t; stems = stems_of c.args.command.stems; scale = c.args.command.scale }) (g.S.Shelf.seen c.args.shelf.now) (g.S.Shelf.seen c.perform_trace.new.shelf))) (sym c.in-Trace.is) c.perform_trace.ensures.stops
+
+pub returns-in-Trace-clause-others : goal.returns-in-Trace-clause-others
+returns-in-Trace-clause-others g c = λ name h. c.perform_trace.ensures.others name

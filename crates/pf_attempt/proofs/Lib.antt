@@ -1,0 +1,6 @@
+mod Held
+mod Parts
+mod Needs
+mod Normal
+mod Readied
+mod Alone

@@ -1,0 +1,36 @@
+use Rattle.std.proofs.Common.{◌++◌, sym, ◌∙◌, ap}
+use Rattle.std.specs.Prelude.{Some, None, min, max}
+use Rattle.pf_model.specs.declared.Op.TheVariants.{Bisect}
+use Rattle.pf_model.specs.Clauses.{first_of}
+use Rattle.pf_model.specs.Rows.{edge_rows, bisect_rows}
+use Rattle.pf_star_model.specs.Lent.{sight_of, side_to, side_from}
+use Rattle.pf_star_model.proofs.Judging.{judged_is_first_failing}
+use Rattle.pf_rings.proofs.Lent.{lent-star, lent-none}
+use Rattle.pf_sight.proofs.Seen.{seen-by, unseen, no-edge}
+use Rattle.pf_bisect.proofs.judging.judge.Goals as goal
+
+pub returns-in-Some-clause-value : goal.returns-in-Some-clause-value
+returns-in-Some-clause-value g c =
+    let lent = g.R.Rings.lent c.args.r.now in
+    let lo = min c.args.a c.args.b in
+    let hi = max c.args.a c.args.b in
+    let star = c.star-star.result.now in
+    let shown = ap lent (sym c.min.ensures) ∙ (lent-star c.ring.result c.in-Some.ring (lent c.min.result) c.ring.ensures c.in-Some.is ∙ ap (λ s. Some s) (sym c.star-star.ensures)) in
+    c.star_refusal.ensures
+    ∙ seen-by (λ o l r. first_of (edge_rows c.args.chunk c.args.a c.args.b l r ++ bisect_rows (sight_of c.args.bands.now o) lo hi l r)) lent lo hi star c.sides_at.result.left c.sides_at.result.right shown
+    (c.sides_at.ensures.left ∙ ap (λ n. side_to n star.spokes) c.max.ensures)
+    (c.sides_at.ensures.right ∙ ap (λ n. side_from n star.spokes) c.max.ensures)
+
+pub returns-in-None-clause-value : goal.returns-in-None-clause-value
+returns-in-None-clause-value g c =
+    let lent = g.R.Rings.lent c.args.r.now in
+    let lo = min c.args.a c.args.b in
+    let hi = max c.args.a c.args.b in
+    no-edge c.args.chunk c.args.a c.args.b (bisect_rows (sight_of c.args.bands.now None) lo hi None None)
+    ∙ unseen (λ o l r. first_of (edge_rows c.args.chunk c.args.a c.args.b l r ++ bisect_rows (sight_of c.args.bands.now o) lo hi l r)) lent lo hi (ap lent (sym c.min.ensures) ∙ lent-none c.ring.result (lent c.min.result) c.ring.ensures c.in-None.is)
+
+pub returns-in-Some-clause-on_mesh : goal.returns-in-Some-clause-on_mesh
+returns-in-Some-clause-on_mesh g c = λ m ok bands ends. returns-in-Some-clause-value g c ∙ judged_is_first_failing m (g.R.Rings.lent c.args.r.now) c.args.bands.now c.args.chunk (Bisect c.args.a c.args.b) ok bands ends.0 ends.1 tt
+
+pub returns-in-None-clause-on_mesh : goal.returns-in-None-clause-on_mesh
+returns-in-None-clause-on_mesh g c = λ m ok bands ends. returns-in-None-clause-value g c ∙ judged_is_first_failing m (g.R.Rings.lent c.args.r.now) c.args.bands.now c.args.chunk (Bisect c.args.a c.args.b) ok bands ends.0 ends.1 tt

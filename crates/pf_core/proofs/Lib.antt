@@ -1,0 +1,12 @@
+mod Kept
+mod Moves
+mod Locking
+mod Returning
+mod Numbering
+mod Pushing
+mod Noting
+mod Stepping
+mod Starring
+mod Committing
+mod Begins
+mod Shared

@@ -1,0 +1,4 @@
+pub mod Held
+pub mod Patches
+pub mod Moved
+pub mod Told

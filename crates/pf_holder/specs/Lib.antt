@@ -1,0 +1,4 @@
+pub mod Facts
+pub mod Prepared
+pub mod Answers
+pub mod Laws

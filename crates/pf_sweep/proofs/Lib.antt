@@ -1,0 +1,4 @@
+pub mod PointsByName
+pub mod Turns
+pub mod Blocks
+pub mod Swept

@@ -1,0 +1,23 @@
+use Rattle.std.proofs.Common.{◌+◌, ◌≤◌, sym, ap, subst, arith}
+use Rattle.pf_model.specs.Mesh.{Undivided}
+use Rattle.pf_model.specs.Applied.{IsFresh}
+use Rattle.sum_tests.proofs.Tickets.{first-after, fresh-after}
+use Rattle.sum_tests.proofs.tests.random.next_ticket.Goals as goal
+
+pub returns-in-Ok-clause-fresh : goal.returns-in-Ok-clause-fresh
+returns-in-Ok-clause-fresh c =
+    let P : Undivided → Type 0 = λ m. IsFresh m (c.args.ticket + 1) in
+    subst P (sym c.in-Ok.ensures.applied) (fresh-after c.args.mesh.now.mesh c.args.ticket c.args.op c.requires.fresh)
+
+pub returns-in-Ok-clause-few : goal.returns-in-Ok-clause-few
+returns-in-Ok-clause-few c =
+    let e = ap (λ (m : Undivided). m.first_new) c.in-Ok.ensures.applied in
+    let f = first-after c.args.mesh.now.mesh c.args.ticket c.args.op in
+    let g = c.requires.few in
+    omega (arith, e, f, g)
+
+pub returns-in-Err-clause-fresh : goal.returns-in-Err-clause-fresh
+returns-in-Err-clause-fresh c = let P : Undivided → Type 0 = λ m. IsFresh m c.args.ticket in subst P (sym c.in-Err.ensures.err) c.requires.fresh
+
+pub returns-in-Err-clause-few : goal.returns-in-Err-clause-few
+returns-in-Err-clause-few c = let P : Undivided → Type 0 = λ m. m.first_new ≤ 1000 in subst P (sym c.in-Err.ensures.err) c.requires.few
