@@ -2,6 +2,7 @@
 ghost use Rattle.std.specs.Prelude.{◌≡◌, ℕ, ◌+◌, ◌-◌, ◌<◌, ◌≤◌, None, IfOk, length, vec_capacity};
 ghost use Rattle.indexmap.specs.IndexMap.{spare};
 ghost use Rattle.pf_open.specs.Open.{shown_mesh, room_left, IsOpen};
+ghost use Rattle.pf_model.specs.Limits.{most_names};
 ghost use Rattle.pf_model.specs.Mesh.{point_of};
 ghost use Rattle.pf_model.specs.Conforming.{IsConforming, IsLive};
 ghost use Rattle.pf_model.specs.Conditions.{first_failing};
@@ -19,7 +20,10 @@ use pf_rules::scratch::Scratch;
 use std::marker::Model;
 
 // How many names there are, those of the points and one for each operation.
-const MOST_NAMES: u32 = 1_048_576;
+const MOST_NAMES: u32 = pf_model::MOST_NAMES;
+
+// The most triangles that an operation puts in.
+const MOST_SPOKES: usize = pf_model::MOST_SPOKES as usize;
 
 /// A mesh that is being worked on. An operation costs as much as its nodes have triangles, whatever the mesh has:
 /// only the edge table is changed, and the lists are made anew when the mesh is closed. Contracts see the mesh,
@@ -77,7 +81,7 @@ impl OpenMesh {
     /// Opens a mesh, with room for so many operations. Its live names are below the limit on names. `NoMemory` says
     /// that there was no such room.
     pub fn of(m: Mesh, ops: u32) -> Result<OpenMesh, NoMemory>
-        requires { (n : ℕ) → IsLive m.mesh n → n < 1048576 }
+        requires { (n : ℕ) → IsLive m.mesh n → n < most_names }
         ensures value { IfOk result (λ r. r.mesh ≡ m.mesh) }
         ensures room { IfOk result (λ r. ops ≤ r.spare) }
         ensures conforming { IfOk result (λ r. IsConforming r.mesh) }
@@ -95,7 +99,7 @@ impl OpenMesh {
             &mut sites,
             &mut tris,
             MOST_NAMES as usize,
-            60 * ops as usize,
+            MOST_SPOKES * ops as usize,
             MOST_NAMES as usize,
         )?;
         let _ = table.sides.len();
@@ -130,7 +134,7 @@ impl OpenMesh {
     /// operation.
     pub fn apply(&mut self, e: &Entry)
         requires fresh { IsFresh self.old.mesh e.now.ticket }
-        requires named { self.old.mesh.first_new + e.now.ticket < 1048576 }
+        requires named { self.old.mesh.first_new + e.now.ticket < most_names }
         requires passes { first_failing self.old.mesh e.now.chunk e.now.op ≡ None }
         requires room { 1 ≤ self.old.spare }
         ensures applied { self.new.mesh ≡ applied self.old.mesh e.now }
