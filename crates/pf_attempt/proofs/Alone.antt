@@ -1,6 +1,6 @@
 -- What an answer says where nobody else is.
-use Rattle.std.proofs.Common.{◌≡◌, ℕ, ◌<◌, List, sym, ◌∙◌, ap, subst, inl, inr, arith}
-use Rattle.std.specs.Prelude.{Option, Some, None, is_some, true, false}
+use Rattle.std.proofs.Common.{◌≡◌, ℕ, ◌<◌, List, refl, sym, ◌∙◌, ap, subst, inl, inr, arith}
+use Rattle.std.specs.Prelude.{Option, Some, None, IfSome, is_some, true, false}
 use Rattle.std.proofs.Props.{props}
 use Rattle.std.proofs.Math.Logic.{∥∥₁_elim}
 use Rattle.pf_model.specs.declared.Band.{Band}
@@ -14,6 +14,7 @@ use Rattle.pf_star_model.specs.Lent.{Held}
 use Rattle.pf_core_model.specs.Core.{Opening}
 use Rattle.pf_holder.specs.Facts.{won_pair, IsSeen, IsJudged, mesh_alone, KnowsAll}
 use Rattle.pf_holder.specs.Answers.{HoldsStar, HasStar, IsFailing, TellsOf, IsDone, IsEntered}
+use Rattle.pf_attempt.specs.Stages.{TellsProbe}
 use Rattle.pf_core_model.specs.declared.answer.Answer.{Answer}
 use Rattle.pf_core_model.specs.declared.answer.Answer.TheVariants.{Done, Refused, Busy, Gone, Unborn, Spent, Memory}
 
@@ -46,3 +47,11 @@ done_where m chunk op rich before left after Spent h e r p = absurd (zero_not ri
     zero_not : (k : ℕ) → k ≡ 0 → 0 < k → ⊥
     zero_not k e l = omega (arith, e, l)
 done_where m chunk op rich before left after Memory h e r p = tt
+
+pub failing_from : (o o' : Opening) (es es' : List Entry) (chunk : ℕ) (op : Op) (x : Option Cond) → o ≡ o' → es ≡ es' → IsFailing (mesh_alone o es) chunk op x → IsFailing (mesh_alone o' es') chunk op x
+failing_from o o' es es' chunk op x e f t = subst (λ (l : List Entry). IsFailing (mesh_alone o' l) chunk op x) f (subst (λ (p : Opening). IsFailing (mesh_alone p es) chunk op x) e t)
+
+-- what is said of an operation that is asked about, by cases
+pub probe_told : (m : Undivided) (chunk : ℕ) (op : Op) (o : Option Answer) → (o ≡ None → IsFailing m chunk op None) → IfSome o (λ x. TellsOf m chunk op x) → TellsProbe m chunk op o
+probe_told m chunk op None f t = f refl
+probe_told m chunk op (Some a) f t = t

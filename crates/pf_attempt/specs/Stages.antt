@@ -1,5 +1,5 @@
 -- What holds between the parts of one try.
-use Rattle.std.specs.Prelude.{◌≡◌, ℕ, List, Option, None, Contains, true, is_some}
+use Rattle.std.specs.Prelude.{◌≡◌, ℕ, List, Option, Some, None, Contains, true, is_some}
 use Rattle.pf_model.specs.declared.Band.{Band}
 use Rattle.pf_model.specs.declared.Op.{Op}
 use Rattle.pf_model.specs.declared.Op.TheVariants.{Flip, Bisect, Contract}
@@ -15,7 +15,9 @@ use Rattle.pf_core_model.specs.Lists.{In}
 use Rattle.pf_core_model.specs.Core.{nodes_in}
 use Rattle.pf_holder.specs.Facts.{IsSeen, IsJudged, HoldsCavity}
 use Rattle.pf_core_model.specs.Right.{IsEnd}
-use Rattle.pf_holder.specs.Answers.{HoldsStar}
+use Rattle.pf_core_model.specs.declared.answer.Answer.{Answer}
+use Rattle.pf_core_model.specs.declared.answer.Answer.TheVariants.{Done, Spent, Memory}
+use Rattle.pf_holder.specs.Answers.{HoldsStar, IsFailing, TellsOf}
 
 -- what is judged from the ends
 abbrev pub judged_first : (ℕ → Option Star) → List Band → ℕ → Op → Option Cond
@@ -57,3 +59,19 @@ pub record HoldsPart (bands : List Band) (pairs : List Held) (chunk : ℕ) (op :
 -- the operation passes, by some chunk, and its cavity is held
 abbrev pub CanMake : List Band → List Held → Op → Type 0
 CanMake bands pairs op = (chunk : ℕ) × IsJudged bands pairs chunk op None × HoldsCavity bands pairs chunk op
+
+-- the operation passes, and its ends and its cavity are held
+abbrev pub PassesHeld : List Band → List Held → ℕ → Op → Type 0
+PassesHeld bands pairs chunk op = HoldsPart bands pairs chunk op × HoldsCavity bands pairs chunk op × IsJudged bands pairs chunk op None
+
+-- it says why an operation is not made: that it fails, that an end is no node, or that another holds a node
+abbrev pub IsRefusal : Answer → Type 0
+IsRefusal (Done t) = ⊥
+IsRefusal Spent = ⊥
+IsRefusal Memory = ⊥
+IsRefusal _ = Unit {0}
+
+-- what is said of an operation that is asked about, where nobody else is, and this is the mesh: None says that it passes
+abbrev pub TellsProbe : Undivided → ℕ → Op → Option Answer → Type 0
+TellsProbe m chunk op None = IsFailing m chunk op None
+TellsProbe m chunk op (Some a) = TellsOf m chunk op a

@@ -10,7 +10,7 @@ ghost use Rattle.pf_core_model.specs.Right.{IsEnd};
 ghost use Rattle.pf_holder.specs.Facts.{LendsAll, IsJudged, HoldsCavity, IsNearLent, won_pair, mesh_alone};
 ghost use Rattle.pf_holder.specs.Prepared.{IsReady};
 ghost use Rattle.pf_holder.specs.Answers.{IsBacked, IsEntered, IsInCavity, HoldsStar, IsFailing, TellsOf, IsDone, AreEndsNames, FoundNothing, IsJudgedAnswer};
-ghost use Rattle.pf_attempt.specs.Stages.{judged_first, judged_last, HoldsEnds, HoldsPart, CanMake};
+ghost use Rattle.pf_attempt.specs.Stages.{judged_first, judged_last, HoldsEnds, HoldsPart, CanMake, PassesHeld, IsRefusal};
 
 use pf_cavity::{Need, need};
 use pf_core_model::{Answer, Asked};
@@ -66,24 +66,42 @@ fn tried<H: Holder>(alloc: Global, h: &mut H, chunk: u16, op: Op) -> Answer
     ensures seen { H.seen_at h.old ≤ H.seen_at h.new }
     ensures alone { H.alone h.old → TellsOf (mesh_alone (H.opening h.old) (H.entries h.old)) chunk op result }
 {
-    if let Some(answer) = ends_held(h, chunk, op) {
+    if let Some(answer) = judged_held(h, chunk, op) {
         return answer;
-    }
-    if let Some(cond) = first_judged(h, chunk, op) {
-        return refused(h, chunk, op, cond);
-    }
-    if let Some(answer) = cavity_held(h, chunk, op) {
-        return answer;
-    }
-    if let Some(cond) = last_judged(h, chunk, op) {
-        return refused(h, chunk, op, cond);
     }
     made(alloc, h, chunk, op)
 }
 
+/// Holds what the operation needs, and judges it. It is `None` where it passes: its cavity is held then.
+pub fn judged_held<H: Holder>(h: &mut H, chunk: u16, op: Op) -> Option<Answer>
+    requires nothing { H.pairs h.old ≡ [] }
+    requires lends { LendsAll (H.lent h.old) (H.pairs h.old) }
+    ensures same { H.same h.old h.new }
+    ensures lends { LendsAll (H.lent h.new) (H.pairs h.new) }
+    ensures others { (H.unborn h.new ≡ H.unborn h.old) × (H.owed h.new ≡ H.owed h.old) }
+    ensures kept { (H.entries h.new ≡ H.entries h.old) × (H.allowance h.new ≡ H.allowance h.old) × (H.seen_at h.old ≤ H.seen_at h.new) }
+    ensures passes { result ≡ None → PassesHeld (H.opening h.new).mesh.bands (H.pairs h.new) chunk op }
+    ensures refused { IfSome result IsRefusal }
+    ensures right { IfSome result (λ x. IsBacked (H.opening h.old) chunk op (H.seen_at h.old) (H.gained h.old h.new) x) }
+    ensures alone { H.alone h.old → IfSome result (λ x. TellsOf (mesh_alone (H.opening h.old) (H.entries h.old)) chunk op x) }
+{
+    if let Some(answer) = ends_held(h, chunk, op) {
+        return Some(answer);
+    }
+    if let Some(cond) = first_judged(h, chunk, op) {
+        return Some(refused(h, chunk, op, cond));
+    }
+    if let Some(answer) = cavity_held(h, chunk, op) {
+        return Some(answer);
+    }
+    if let Some(cond) = last_judged(h, chunk, op) {
+        return Some(refused(h, chunk, op, cond));
+    }
+    None
+}
+
 // Holds both ends, as written.
 fn ends_held<H: Holder>(h: &mut H, chunk: u16, op: Op) -> Option<Answer>
-    requires rich { 0 < H.allowance h.old }
     requires nothing { H.pairs h.old ≡ [] }
     requires lends { LendsAll (H.lent h.old) (H.pairs h.old) }
     ensures same { H.same h.old h.new }
@@ -91,7 +109,7 @@ fn ends_held<H: Holder>(h: &mut H, chunk: u16, op: Op) -> Option<Answer>
     ensures others { (H.unborn h.new ≡ H.unborn h.old) × (H.owed h.new ≡ H.owed h.old) }
     ensures kept { (H.entries h.new ≡ H.entries h.old) × (H.allowance h.new ≡ H.allowance h.old) × (H.seen_at h.old ≤ H.seen_at h.new) }
     ensures ends { result ≡ None → HoldsEnds op (H.pairs h.new) }
-    ensures entered { IfSome result (λ x. IsEntered chunk op (H.allowance h.old) (H.entries h.old) (H.allowance h.new) (H.entries h.new) x) }
+    ensures refused { IfSome result IsRefusal }
     ensures right { IfSome result (λ x. IsBacked (H.opening h.old) chunk op (H.seen_at h.old) (H.gained h.old h.new) x) }
     ensures alone { H.alone h.old → IfSome result (λ x. TellsOf (mesh_alone (H.opening h.old) (H.entries h.old)) chunk op x) }
 {
@@ -118,7 +136,6 @@ fn ends_of(op: Op) -> (u32, u32)
 
 // Holds an end.
 fn end_held<H: Holder>(h: &mut H, chunk: u16, op: Op, n: u32) -> Option<Answer>
-    requires rich { 0 < H.allowance h.old }
     requires end { IsEnd n op }
     requires away { In n (nodes_in (H.pairs h.old)) → ⊥ }
     requires room { length (H.pairs h.old) < 65 }
@@ -128,7 +145,7 @@ fn end_held<H: Holder>(h: &mut H, chunk: u16, op: Op, n: u32) -> Option<Answer>
     ensures others { (H.unborn h.new ≡ H.unborn h.old) × (H.owed h.new ≡ H.owed h.old) }
     ensures kept { (H.entries h.new ≡ H.entries h.old) × (H.allowance h.new ≡ H.allowance h.old) × (H.seen_at h.old ≤ H.seen_at h.new) }
     ensures won { result ≡ None → (s : Star) × (H.pairs h.new ≡ won_pair n s ∷ H.pairs h.old) }
-    ensures entered { IfSome result (λ x. IsEntered chunk op (H.allowance h.old) (H.entries h.old) (H.allowance h.new) (H.entries h.new) x) }
+    ensures refused { IfSome result IsRefusal }
     ensures right { IfSome result (λ x. IsBacked (H.opening h.old) chunk op (H.seen_at h.old) (H.gained h.old h.new) x) }
     ensures alone { H.alone h.old → IfSome result (λ x. TellsOf (mesh_alone (H.opening h.old) (H.entries h.old)) chunk op x) }
 {
@@ -192,13 +209,15 @@ fn last_judged<H: Holder>(h: &H, chunk: u16, op: Op) -> Option<Cond>
 
 // The operation fails.
 fn refused<H: Holder>(h: &mut H, chunk: u16, op: Op, cond: Cond) -> Answer
-    requires rich { 0 < H.allowance h.old }
     requires ends { HoldsStar (H.pairs h.old) (first_end op) × HoldsStar (H.pairs h.old) (second_end op) }
     requires fails { IsJudged (H.opening h.old).mesh.bands (H.pairs h.old) chunk op (Some cond) }
+    requires lends { LendsAll (H.lent h.old) (H.pairs h.old) }
     ensures same { H.same h.old h.new }
-    ensures entered { IsEntered chunk op (H.allowance h.old) (H.entries h.old) (H.allowance h.new) (H.entries h.new) result }
+    ensures lends { LendsAll (H.lent h.new) (H.pairs h.new) }
+    ensures others { (H.unborn h.new ≡ H.unborn h.old) × (H.owed h.new ≡ H.owed h.old) }
+    ensures kept { (H.entries h.new ≡ H.entries h.old) × (H.allowance h.new ≡ H.allowance h.old) × (H.seen_at h.old ≤ H.seen_at h.new) }
+    ensures refused { IsRefusal result }
     ensures right { IsBacked (H.opening h.old) chunk op (H.seen_at h.old) (H.gained h.old h.new) result }
-    ensures seen { H.seen_at h.old ≤ H.seen_at h.new }
     ensures alone { H.alone h.old → TellsOf (mesh_alone (H.opening h.old) (H.entries h.old)) chunk op result }
 {
     let at = h.note(Some(Asked { chunk, op }));
@@ -207,7 +226,6 @@ fn refused<H: Holder>(h: &mut H, chunk: u16, op: Op, cond: Cond) -> Answer
 
 // Holds the rest of the cavity, by rising name.
 fn cavity_held<H: Holder>(h: &mut H, chunk: u16, op: Op) -> Option<Answer>
-    requires rich { 0 < H.allowance h.old }
     requires part { HoldsPart (H.opening h.old).mesh.bands (H.pairs h.old) chunk op }
     requires lends { LendsAll (H.lent h.old) (H.pairs h.old) }
     ensures same { H.same h.old h.new }
@@ -215,7 +233,7 @@ fn cavity_held<H: Holder>(h: &mut H, chunk: u16, op: Op) -> Option<Answer>
     ensures others { (H.unborn h.new ≡ H.unborn h.old) × (H.owed h.new ≡ H.owed h.old) }
     ensures kept { (H.entries h.new ≡ H.entries h.old) × (H.allowance h.new ≡ H.allowance h.old) × (H.seen_at h.old ≤ H.seen_at h.new) }
     ensures whole { result ≡ None → HoldsPart (H.opening h.new).mesh.bands (H.pairs h.new) chunk op × HoldsCavity (H.opening h.new).mesh.bands (H.pairs h.new) chunk op }
-    ensures entered { IfSome result (λ x. IsEntered chunk op (H.allowance h.old) (H.entries h.old) (H.allowance h.new) (H.entries h.new) x) }
+    ensures refused { IfSome result IsRefusal }
     ensures right { IfSome result (λ x. IsBacked (H.opening h.old) chunk op (H.seen_at h.old) (H.gained h.old h.new) x) }
     ensures alone { H.alone h.old → IfSome result (λ x. TellsOf (mesh_alone (H.opening h.old) (H.entries h.old)) chunk op x) }
 {
@@ -233,7 +251,6 @@ fn cavity_held<H: Holder>(h: &mut H, chunk: u16, op: Op) -> Option<Answer>
 
 // Holds a node of the cavity.
 fn node_held<H: Holder>(h: &mut H, chunk: u16, op: Op, n: u32) -> Option<Answer>
-    requires rich { 0 < H.allowance h.old }
     requires cavity { IsInCavity (H.opening h.old).mesh.bands (H.pairs h.old) chunk op n }
     requires near { IsNearLent (H.lent h.old) n }
     requires away { In n (nodes_in (H.pairs h.old)) → ⊥ }
@@ -244,7 +261,7 @@ fn node_held<H: Holder>(h: &mut H, chunk: u16, op: Op, n: u32) -> Option<Answer>
     ensures others { (H.unborn h.new ≡ H.unborn h.old) × (H.owed h.new ≡ H.owed h.old) }
     ensures kept { (H.entries h.new ≡ H.entries h.old) × (H.allowance h.new ≡ H.allowance h.old) × (H.seen_at h.old ≤ H.seen_at h.new) }
     ensures won { result ≡ None → (s : Star) × (H.pairs h.new ≡ won_pair n s ∷ H.pairs h.old) }
-    ensures entered { IfSome result (λ x. IsEntered chunk op (H.allowance h.old) (H.entries h.old) (H.allowance h.new) (H.entries h.new) x) }
+    ensures refused { IfSome result IsRefusal }
     ensures right { IfSome result (λ x. IsBacked (H.opening h.old) chunk op (H.seen_at h.old) (H.gained h.old h.new) x) }
     ensures alone { H.alone h.old → IfSome result (λ x. TellsOf (mesh_alone (H.opening h.old) (H.entries h.old)) chunk op x) }
 {

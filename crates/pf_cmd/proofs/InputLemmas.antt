@@ -8,11 +8,10 @@ use Rattle.pf_shelf.specs.Files.{held}
 use Rattle.pf_shelf.specs.Seen.{Seen}
 use Rattle.pf_say.specs.declared.fault.Fault.TheVariants.{TooLong}
 use Rattle.pf_say.specs.declared.place.Place.{Place}
-use Rattle.pf_say.specs.declared.place.Place.TheVariants.{Node, Ele, Part, Size, Journal, Trace, OutNode, OutEle, OutPart}
+use Rattle.pf_say.specs.declared.place.Place.TheVariants.{Node, Ele, Part, Size, Journal, Trace, OutNode, OutEle, OutPart, OutJournal, OutRest}
 use Rattle.pf_say.specs.declared.stop.Trouble.TheVariants.{Missing}
 use Rattle.pf_say.specs.declared.stop.Stop.TheVariants.{Input, Limit, Device}
 use Rattle.pf_say.specs.Place.{Stems, name_of}
-use Rattle.pf_model.specs.declared.Entry.{Entry}
 use Rattle.pf_cmd.specs.Input.{Held, files_in, without, is_place, file_of, bytes_in, within_limit}
 
 pub file_of-short : (place : Place) (bytes : List ℕ) → length bytes ≤ 268435456 → file_of place (Some bytes) ≡ Ok bytes
@@ -45,6 +44,8 @@ itself Trace = refl
 itself OutNode = refl
 itself OutEle = refl
 itself OutPart = refl
+itself OutJournal = refl
+itself OutRest = refl
 
 -- a file that is taken out is missing
 pub bytes_in-without : (place : Place) (files : Held) → bytes_in place (without place files) ≡ Err (Device (Missing place))
@@ -54,11 +55,11 @@ bytes_in-without place files = ap (file_of place) (gone place files)
     gone : (place : Place) (files : Held) → without place files place ≡ None
     gone place files = rw (itself place) refl
 
-pub within_limit-small : (vertices : ℕ) (entries : List Entry) → vertices + length entries ≤ 1048576 → within_limit vertices entries ≡ Ok entries
-within_limit-small vertices entries h = grind (arith, nat_tests)
+pub within_limit-small : {A : Type 0} (vertices operations : ℕ) (value : A) → vertices + operations ≤ 1048576 → within_limit vertices operations value ≡ Ok value
+within_limit-small vertices operations value h = grind (arith, nat_tests)
 
-pub within_limit-large : (vertices : ℕ) (entries : List Entry) → 1048576 < vertices + length entries → within_limit vertices entries ≡ Err (Limit (vertices + length entries))
-within_limit-large vertices entries h = grind (arith, nat_tests)
+pub within_limit-large : {A : Type 0} (vertices operations : ℕ) (value : A) → 1048576 < vertices + operations → within_limit vertices operations value ≡ Err (Limit (vertices + operations))
+within_limit-large vertices operations value h = grind (arith, nat_tests)
 
 -- what `read_all` answers is one answer
 

@@ -20,7 +20,7 @@ use Rattle.pf_shelf.specs.Files.{held}
 use Rattle.pf_shelf.specs.Seen.{Seen}
 use Rattle.pf_say.specs.declared.fault.Fault.TheVariants.{TooLong}
 use Rattle.pf_say.specs.declared.place.Place.{Place}
-use Rattle.pf_say.specs.declared.place.Place.TheVariants.{Node, Ele, Part, Size, Journal, Trace, OutNode, OutEle, OutPart}
+use Rattle.pf_say.specs.declared.place.Place.TheVariants.{Node, Ele, Part, Size, Journal, Trace, OutNode, OutEle, OutPart, OutJournal, OutRest}
 use Rattle.pf_say.specs.declared.stop.Trouble.TheVariants.{Missing}
 use Rattle.pf_say.specs.declared.stop.Stop.{Stop}
 use Rattle.pf_say.specs.declared.stop.Stop.TheVariants.{Input, Limit, Device}
@@ -46,6 +46,8 @@ is_place Trace Trace = true
 is_place OutNode OutNode = true
 is_place OutEle OutEle = true
 is_place OutPart OutPart = true
+is_place OutJournal OutJournal = true
+is_place OutRest OutRest = true
 is_place place other = false
 
 -- the same files, but the one of this place isn't held
@@ -146,15 +148,17 @@ abbrev pub jour_accepted : Result (List Entry) JourErr → Result (List Entry) S
 jour_accepted (Ok entries) = Ok entries
 jour_accepted (Err fault) = Err (jour_stop fault)
 
--- the journal for a mesh of so many vertices, which has no more entries than there are names left
-abbrev pub within_limit : ℕ → List Entry → Result (List Entry) Stop
-within_limit vertices entries = if nat_le (vertices + length entries) 1048576 then Ok entries else Err (Limit (vertices + length entries))
+-- what makes so many operations on a mesh of so many vertices, where there are as many names left
+abbrev pub within_limit : {A : Type 0} → ℕ → ℕ → A → Result A Stop
+within_limit vertices operations value = if nat_le (vertices + operations) 1048576 then Ok value else Err (Limit (vertices + operations))
+
+-- the journal for a mesh of so many vertices
 
 unfoldable pub entries_in : ℕ → Held → Result (List Entry) Stop
 entries_in vertices files = do
   bytes ← bytes_in Journal files
   entries ← jour_accepted (journal_of bytes)
-  within_limit vertices entries
+  within_limit vertices (length entries) entries
 
 -- what a trace says
 abbrev pub trace_accepted : Result Told TraceErr → Result Told Stop

@@ -1,14 +1,18 @@
 -- The code's commands, options and readings, as what they say.
-use Rattle.std.specs.Prelude.{◌≡◌, ℕ, List, length, Ok}
+use Rattle.std.specs.Prelude.{◌≡◌, ℕ, List, length, Ok, Option}
 use Rattle.pf_model.specs.Replay.{replayed, IsLegal}
+use Rattle.pf_model.specs.Wishes.{rest_of}
+use Rattle.pf_adapt.specs.Adapted.{IsAdapted}
 use Rattle.pf_say.specs.Shown.{stems_of}
 use Rattle.pf_cmd.specs.declared.words.Choice.{Choice as CodedChoice}
 use Rattle.pf_cmd.specs.declared.words.Command.{Command as CodedCommand}
 use Rattle.pf_cmd.specs.declared.input.Parted.{Parted as CodedParted}
+use Rattle.pf_cmd.specs.declared.input.Budgeted.{Budgeted as CodedBudgeted}
+use Rattle.pf_cmd.specs.declared.adapt.Refined.{Refined as CodedRefined}
 use Rattle.pf_cmd.specs.declared.replay.Replayed.{Replayed as CodedReplayed}
 use Rattle.pf_cmd.specs.Input.{Held, Parted}
 use Rattle.pf_cmd.specs.Words.{Choice}
-use Rattle.pf_cmd.specs.Commands.{Command, Journalled, journalled_in, Traced, traced_in}
+use Rattle.pf_cmd.specs.Commands.{Command, Budgeted, budgeted_in, Journalled, journalled_in, Traced, traced_in}
 use Rattle.trace_text.specs.Verdicts.{answer_text}
 
 -- what a command asks for
@@ -22,6 +26,18 @@ choice_of choice = record { name = choice.name.now; least = choice.least; most =
 -- a mesh as it is listed with its chunks, as what it says
 abbrev pub parted_of : CodedParted → Parted
 parted_of read = record { listed = record { base = read.listed.base; mesh = read.listed.mesh.mesh; triangles = read.listed.triangles.items }; parts = read.parts }
+
+-- a mesh with the operations that may be made of it, as what it says
+abbrev pub budgeted_of : CodedBudgeted → Budgeted
+budgeted_of read = record { base = read.base; mesh = read.mesh.mesh; budget = read.budget }
+
+-- a mesh that was adapted, as what it was before
+pub record IsRefined (ops : Option ℕ) (scale : ℕ) (files : Held) (after : CodedRefined) : Type 0 where
+  pub input : Budgeted
+  pub is_input : budgeted_in ops scale files ≡ Ok input
+  pub adapted : IsAdapted input.mesh input.budget after.adapted.journal.items
+  pub base : after.base ≡ input.base
+  pub mesh : after.adapted.mesh.mesh ≡ replayed input.mesh after.adapted.journal.items
 
 -- a mesh after its journal, as what it was before
 pub record IsReplayed (scale : ℕ) (files : Held) (after : CodedReplayed) : Type 0 where

@@ -4,7 +4,7 @@ use Rattle.std.specs.Borrow.{Bor}
 use Rattle.std.specs.Str.{bytes_eq}
 use Rattle.pf_lex.specs.Number.{natural_of}
 use Rattle.pf_cmd.specs.declared.words.Task.{Task}
-use Rattle.pf_cmd.specs.declared.words.Task.TheVariants.{Replay, Check, Trace}
+use Rattle.pf_cmd.specs.declared.words.Task.TheVariants.{Adapt, Replay, Check, Chunks, Trace}
 use Rattle.pf_cmd.specs.Commands.{Command}
 
 -- the words as texts
@@ -27,6 +27,22 @@ pub record Choice : Type 0 where
 abbrev pub scale_choice : Choice
 scale_choice = record { name = codes "--scale"; least = 1; most = 1048576; otherwise = 1 }
 
+-- how many workers there are
+abbrev pub workers_choice : Choice
+workers_choice = record { name = codes "--workers"; least = 1; most = 64; otherwise = 4 }
+
+-- how many operations are made at most
+abbrev pub ops_choice : Choice
+ops_choice = record { name = codes "--ops"; least = 0; most = 1048576; otherwise = 0 }
+
+-- how many turns a worker makes at most
+abbrev pub turns_choice : Choice
+turns_choice = record { name = codes "--turns"; least = 0; most = 10000000; otherwise = 1000000 }
+
+-- the options of an adaptation
+abbrev pub adapt_choices : List Choice
+adapt_choices = workers_choice ∷ ops_choice ∷ turns_choice ∷ scale_choice ∷ []
+
 -- the options of a replay
 abbrev pub replay_choices : List Choice
 replay_choices = scale_choice ∷ []
@@ -34,6 +50,10 @@ replay_choices = scale_choice ∷ []
 -- the options of a check
 abbrev pub check_choices : List Choice
 check_choices = scale_choice ∷ []
+
+-- the options of a chunk list
+abbrev pub chunks_choices : List Choice
+chunks_choices = scale_choice ∷ []
 
 -- the options of a trace
 abbrev pub trace_choices : List Choice
@@ -65,6 +85,12 @@ value_of choice [] = choice.otherwise
 value_of choice (name ∷ []) = choice.otherwise
 value_of choice (name ∷ word ∷ words) = if bytes_eq name choice.name then unwrap_or (chosen choice word) choice.otherwise else value_of choice words
 
+-- the value of an option, where it is given
+abbrev pub value_in : Choice → List (List ℕ) → Option ℕ
+value_in choice [] = None
+value_in choice (name ∷ []) = None
+value_in choice (name ∷ word ∷ words) = if bytes_eq name choice.name then chosen choice word else value_in choice words
+
 -- `BASE OUT` or `BASE FILE`, and the options
 abbrev pub two_of : Task → List Choice → List (List ℕ) → Option Command
 two_of task choices [] = None
@@ -75,18 +101,27 @@ two_of task choices (base ∷ out ∷ options) =
     else None
 
 -- `BASE`, and the options
-abbrev pub check_of : List (List ℕ) → Option Command
-check_of [] = None
-check_of (base ∷ options) =
-    if not (has_dash base) && are_choices check_choices options
-    then Some record { task = Check; stems = record { base = base; out = base }; scale = value_of scale_choice options }
+abbrev pub one_of : Task → List Choice → List (List ℕ) → Option Command
+one_of task choices [] = None
+one_of task choices (base ∷ options) =
+    if not (has_dash base) && are_choices choices options
+    then Some record { task = task; stems = record { base = base; out = base }; scale = value_of scale_choice options }
     else None
+
+-- `BASE OUT`, and the options, among them that there is one worker
+abbrev pub adapt_of : List (List ℕ) → Option Command
+adapt_of [] = None
+adapt_of (base ∷ []) = None
+adapt_of (base ∷ out ∷ options) =
+    if value_of workers_choice options == 1 then two_of (Adapt (value_in ops_choice options)) adapt_choices (base ∷ out ∷ options) else None
 
 -- the command; none where the words are in no command's form
 abbrev pub command_of : List (List ℕ) → Option Command
 command_of [] = None
 command_of (name ∷ words) =
-    if bytes_eq name (codes "replay") then two_of Replay replay_choices words
-    else if bytes_eq name (codes "check") then check_of words
+    if bytes_eq name (codes "adapt") then adapt_of words
+    else if bytes_eq name (codes "replay") then two_of Replay replay_choices words
+    else if bytes_eq name (codes "check") then one_of Check check_choices words
+    else if bytes_eq name (codes "chunks") then one_of Chunks chunks_choices words
     else if bytes_eq name (codes "trace") then two_of Trace trace_choices words
     else None

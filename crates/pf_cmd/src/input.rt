@@ -1,9 +1,10 @@
 // What the files that a command reads say.
-ghost use Rattle.std.specs.Prelude.{◌≡◌, ◌<◌, ◌≤◌, ◌+◌, [], ◌∷◌, ℕ, Ok, IfOk, IfErr, All, length, vec_len};
+ghost use Rattle.std.specs.Prelude.{◌≡◌, ◌<◌, ◌≤◌, ◌+◌, [], ◌∷◌, ℕ, None, Ok, IfOk, IfErr, All, length, vec_len};
 ghost use Rattle.pf_shelf.specs.Files.{Tells};
 ghost use Rattle.pf_say.specs.Shown.{stems_of};
 ghost use Rattle.pf_cmd.specs.Causes.{IsOnlyRead, IsQuiet, Explains};
-ghost use Rattle.pf_cmd.specs.Shown.{parted_of};
+ghost use Rattle.pf_cmd.specs.Shown.{parted_of, budgeted_of};
+ghost use Rattle.pf_cmd.specs.Commands.{budget_of, budgeted_in, divided_in};
 ghost use Rattle.pf_cmd.specs.Input.{files_in, bytes_in, vertices_in, triangles_in, mesh_in, parts_in, bands_in, parted_in, numbered_in, entries_in};
 ghost use Rattle.pf_geom.specs.Plane.{IsInRange};
 ghost use Rattle.pf_model.specs.Conforming.{IsLive, HasDefault};
@@ -258,6 +259,89 @@ pub(crate) fn read_numbered<S: Shelf>(
         base: listed.base,
         mesh,
     })
+}
+
+/// A mesh with its chunks and wanted lengths, the number of the first node in its files, and how many operations may be
+/// made of it.
+#[derive(Drop)]
+pub(crate) struct Budgeted {
+    pub(crate) base: u32,
+    pub(crate) mesh: Mesh,
+    pub(crate) budget: u32,
+}
+
+/// The mesh of all four files, which has a name for each of the operations that may be made.
+pub(crate) fn read_budgeted<S: Shelf>(
+    alloc: Global,
+    shelf: &mut S,
+    stems: Stems<'_>,
+    scale: u32,
+    ops: Option<u32>,
+) -> Result<Budgeted, Stop>
+    requires scale_low { 1 ≤ scale }
+    requires scale_high { scale ≤ 1048576 }
+    ensures mesh { Tells (S.seen shelf.old).told → IfOk result (λ read.
+        budgeted_in ops scale (files_in (S.seen shelf.old) (stems_of stems.entry)) ≡ Ok (budgeted_of read)) }
+    ensures base { IfOk result (λ read. read.base ≤ 1) }
+    ensures fresh { IfOk result (λ read. (n : ℕ) → IsLive read.mesh.mesh n → n < read.mesh.mesh.first_new) }
+    ensures limit { IfOk result (λ read. read.mesh.mesh.first_new + read.budget ≤ 1048576) }
+    ensures stop { IfErr result (Explains (Place.Node ∷ Place.Ele ∷ Place.Part ∷ Place.Size ∷ []) (S.seen shelf.old) (S.seen shelf.new)
+        (stems_of stems.entry) (budgeted_in ops scale)) }
+    ensures quiet { IfOk result (λ _. IsQuiet (S.seen shelf.old) (S.seen shelf.new)) }
+    ensures only_read { IsOnlyRead (S.seen shelf.old) (S.seen shelf.new) }
+{
+    let Numbered { base, mesh } = read_numbered(alloc, shelf, stems, scale)?;
+    let first_new = mesh.first_new();
+    let budget = budget_of(ops, first_new);
+    let count = first_new as u64 + budget as u64;
+    if count > MOST_NAMES {
+        return Err(Stop::Limit { count });
+    }
+    Ok(Budgeted { base, mesh, budget })
+}
+
+// How many operations may be made of a mesh of so many vertices: as many as are asked for, or what is usual.
+fn budget_of(ops: Option<u32>, vertices: u32) -> u32
+    ensures { result ≡ budget_of ops vertices }
+{
+    match ops {
+        Some(ops) => ops,
+        None => usual_budget(vertices),
+    }
+}
+
+// The lesser of four for each vertex and a thousand more, and the names that are left.
+fn usual_budget(vertices: u32) -> u32
+    ensures { result ≡ budget_of None vertices }
+{
+    let wanted: u64 = 4 * vertices as u64 + 1000;
+    let left: u64 = MOST_NAMES.saturating_sub(vertices as u64);
+    wanted.min(left) as u32
+}
+
+/// The mesh with its chunks.
+pub(crate) fn read_divided<S: Shelf>(
+    alloc: Global,
+    shelf: &mut S,
+    stems: Stems<'_>,
+    scale: u32,
+) -> Result<Mesh, Stop>
+    requires scale_low { 1 ≤ scale }
+    requires scale_high { scale ≤ 1048576 }
+    ensures mesh { Tells (S.seen shelf.old).told → IfOk result (λ mesh.
+        divided_in scale (files_in (S.seen shelf.old) (stems_of stems.entry)) ≡ Ok mesh.mesh) }
+    ensures stop { IfErr result (Explains (Place.Node ∷ Place.Ele ∷ Place.Part ∷ []) (S.seen shelf.old) (S.seen shelf.new)
+        (stems_of stems.entry) (divided_in scale)) }
+    ensures quiet { IfOk result (λ _. IsQuiet (S.seen shelf.old) (S.seen shelf.new)) }
+    ensures only_read { IsOnlyRead (S.seen shelf.old) (S.seen shelf.new) }
+{
+    let Parted { listed, parts } = read_parted(alloc, shelf, stems, scale)?;
+    let bands = Vec::from_slice(alloc, listed.mesh.bands())?;
+    let Parts { owners, chunks } = parts;
+    let mesh = listed
+        .mesh
+        .with_tables(&listed.triangles, owners, chunks, bands)?;
+    Ok(mesh)
 }
 
 /// The journal for a mesh of so many vertices.

@@ -5,7 +5,9 @@
 //! first write.
 #![tactic(auto)]
 
+mod adapt;
 mod check;
+mod chunks;
 mod fault;
 mod input;
 mod output;

@@ -19,8 +19,8 @@ const WORDS_REFUSED: &[u8] = b"parfum: words refused\n";
 
 /// Does all that the program does, and gives the exit status.
 ///
-/// `words` are those behind the program's name: `check BASE [--scale S]`, `replay BASE OUT [--scale S]` or
-/// `trace BASE FILE [--scale S]`. Files are read and written through `shelf`, and one text is said to `out`. All texts are made ready before the first write.
+/// `words` are those behind the program's name: `adapt BASE OUT --workers 1 [--ops N] [--turns N] [--scale S]`,
+/// `replay BASE OUT [--scale S]`, `check BASE [--scale S]`, `chunks BASE [--scale S]` or `trace BASE FILE [--scale S]`. Files are read and written through `shelf`, and one text is said to `out`. All texts are made ready before the first write.
 ///
 /// | Status | It comes |
 /// |---|---|

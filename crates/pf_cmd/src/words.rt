@@ -1,7 +1,7 @@
 // What the words of the command line ask for.
 ghost use Rattle.std.specs.Prelude.{◌≡◌, ◌≤◌, map, is_some, IfSome};
 ghost use Rattle.std.specs.Option.{option_map};
-ghost use Rattle.pf_cmd.specs.Words.{texts_of, has_dash, scale_choice, chosen, is_choice, has_word, are_choices, value_of, two_of, check_of, command_of};
+ghost use Rattle.pf_cmd.specs.Words.{texts_of, has_dash, scale_choice, chosen, is_choice, has_word, are_choices, value_of, value_in, workers_choice, ops_choice, two_of, one_of, adapt_of, command_of};
 ghost use Rattle.pf_cmd.specs.Commands.{IsScaled};
 ghost use Rattle.pf_cmd.specs.Shown.{shown, choice_of};
 
@@ -11,10 +11,14 @@ use pf_say::Stems;
 /// What is to be done.
 #[derive(Clone, Copy, Debug, PartialEq, Eq)]
 pub(crate) enum Task {
+    /// A mesh is adapted, by at most so many operations, where that many are said.
+    Adapt { ops: Option<u32> },
     /// A journal is replayed on a mesh.
     Replay,
     /// A mesh is checked.
     Check,
+    /// What the chunks of a mesh share is listed.
+    Chunks,
     /// A trace is run on a mesh.
     Trace,
 }
@@ -44,11 +48,41 @@ const SCALE: Choice = Choice {
     otherwise: 1,
 };
 
+// How many workers there are.
+const WORKERS: Choice = Choice {
+    name: "--workers",
+    least: 1,
+    most: 64,
+    otherwise: 4,
+};
+
+// How many operations are made at most.
+const OPS: Choice = Choice {
+    name: "--ops",
+    least: 0,
+    most: 1_048_576,
+    otherwise: 0,
+};
+
+// How many turns a worker makes at most.
+const TURNS: Choice = Choice {
+    name: "--turns",
+    least: 0,
+    most: 10_000_000,
+    otherwise: 1_000_000,
+};
+
+// The options of an adaptation.
+const ADAPT: [Choice; 4] = [WORKERS, OPS, TURNS, SCALE];
+
 // The options of a replay.
 const REPLAY: [Choice; 1] = [SCALE];
 
 // The options of a check.
 const CHECK: [Choice; 1] = [SCALE];
+
+// The options of a chunk list.
+const CHUNKS: [Choice; 1] = [SCALE];
 
 // The options of a trace.
 const TRACE: [Choice; 1] = [SCALE];
@@ -61,10 +95,14 @@ pub(crate) fn command_of<'a>(words: &'a [&'a str]) -> Option<Command<'a>>
     let [name, others @ ..] = words else {
         return None;
     };
-    if *name == "replay" {
+    if *name == "adapt" {
+        adapt_of(others)
+    } else if *name == "replay" {
         two_of(Task::Replay, &REPLAY, others)
     } else if *name == "check" {
-        check_of(others)
+        one_of(Task::Check, &CHECK, others)
+    } else if *name == "chunks" {
+        one_of(Task::Chunks, &CHUNKS, others)
     } else if *name == "trace" {
         two_of(Task::Trace, &TRACE, others)
     } else {
@@ -90,21 +128,54 @@ fn two_of<'a>(task: Task, choices: &[Choice], words: &'a [&'a str]) -> Option<Co
     })
 }
 
-fn check_of<'a>(words: &'a [&'a str]) -> Option<Command<'a>>
-    ensures command { option_map shown result ≡ check_of (texts_of words.entry.now) }
+// The command with one stem that these words ask for, with these options.
+fn one_of<'a>(task: Task, choices: &[Choice], words: &'a [&'a str]) -> Option<Command<'a>>
+    ensures command { option_map shown result ≡ one_of task (map choice_of choices.now) (texts_of words.entry.now) }
     ensures scaled { IfSome result (λ command. IsScaled (shown command)) }
 {
     let [base, options @ ..] = words else {
         return None;
     };
-    if has_dash(base) || !are_choices(&CHECK, options) {
+    if has_dash(base) || !are_choices(choices, options) {
         return None;
     }
     Some(Command {
-        task: Task::Check,
+        task,
         stems: Stems { base, out: base },
         scale: scale_of(options),
     })
+}
+
+// The adaptation that these words ask for. It has one worker.
+fn adapt_of<'a>(words: &'a [&'a str]) -> Option<Command<'a>>
+    ensures command { option_map shown result ≡ adapt_of (texts_of words.entry.now) }
+    ensures scaled { IfSome result (λ command. IsScaled (shown command)) }
+{
+    let [_, _, options @ ..] = words else {
+        return None;
+    };
+    if workers_of(options) != 1 {
+        return None;
+    }
+    let ops = ops_of(options);
+    two_of(Task::Adapt { ops }, &ADAPT, words)
+}
+
+// How many workers there are, as the options say.
+fn workers_of(options: &[&str]) -> u64
+    ensures { result ≡ value_of workers_choice (texts_of options.now) }
+{
+    value_of(WORKERS, options)
+}
+
+// How many operations are made at most, where the options say it.
+fn ops_of(options: &[&str]) -> Option<u32>
+    ensures { result ≡ value_in ops_choice (texts_of options.now) }
+{
+    match value_in(OPS, options) {
+        Some(value) => Some(value as u32),
+        None => None,
+    }
 }
 
 // What coordinates are multiplied by, as the options say.
@@ -172,6 +243,23 @@ fn value_of(choice: Choice, words: &[&str]) -> u64
             }
         }
         _ => choice.otherwise,
+    }
+}
+
+// The value of an option, where it is given.
+fn value_in(choice: Choice, words: &[&str]) -> Option<u64>
+    ensures value { result ≡ value_in (choice_of choice) (texts_of words.now) }
+    ensures high { IfSome result (λ value. value ≤ choice.most) }
+{
+    match words {
+        [name, word, others @ ..] => {
+            if *name == choice.name {
+                chosen(choice, word)
+            } else {
+                value_in(choice, others)
+            }
+        }
+        _ => None,
     }
 }
 

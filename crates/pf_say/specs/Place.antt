@@ -1,7 +1,7 @@
 -- The files of a command by their places, and their names.
 use Rattle.std.specs.Prelude.{ℕ, List, [], ◌++◌, codes}
 use Rattle.pf_say.specs.declared.place.Place.{Place}
-use Rattle.pf_say.specs.declared.place.Place.TheVariants.{Node, Ele, Part, Size, Journal, Trace, OutNode, OutEle, OutPart}
+use Rattle.pf_say.specs.declared.place.Place.TheVariants.{Node, Ele, Part, Size, Journal, Trace, OutNode, OutEle, OutPart, OutJournal, OutRest}
 
 -- the two stems that the words name
 pub record Stems : Type 0 where
@@ -19,6 +19,8 @@ stem_of stems Trace = stems.out
 stem_of stems OutNode = stems.out
 stem_of stems OutEle = stems.out
 stem_of stems OutPart = stems.out
+stem_of stems OutJournal = stems.out
+stem_of stems OutRest = stems.out
 
 -- how the name goes on
 abbrev pub ending_of : Place → List ℕ
@@ -31,6 +33,8 @@ ending_of Trace = []
 ending_of OutNode = codes ".node"
 ending_of OutEle = codes ".ele"
 ending_of OutPart = codes ".part"
+ending_of OutJournal = codes ".journal"
+ending_of OutRest = codes ".rest"
 
 -- the whole name
 abbrev pub name_of : Stems → Place → List ℕ

@@ -26,6 +26,10 @@ pub enum Place {
     OutEle,
     /// The chunks of the triangles that are written.
     OutPart,
+    /// The journal that is written.
+    OutJournal,
+    /// The rest list that is written.
+    OutRest,
 }
 
 /// The two stems that the words name.
@@ -45,8 +49,13 @@ impl Stems<'_> {
     {
         match place {
             Place::Node | Place::Ele | Place::Part | Place::Size => self.base,
-            Place::Journal | Place::Trace | Place::OutNode | Place::OutEle | Place::OutPart =>
-                self.out,
+            Place::Journal
+            | Place::Trace
+            | Place::OutNode
+            | Place::OutEle
+            | Place::OutPart
+            | Place::OutJournal
+            | Place::OutRest => self.out,
         }
     }
 
@@ -69,7 +78,8 @@ pub fn ending(place: Place) -> &'static str
         Place::Ele | Place::OutEle => ".ele",
         Place::Part | Place::OutPart => ".part",
         Place::Size => ".size",
-        Place::Journal => ".journal",
+        Place::Journal | Place::OutJournal => ".journal",
+        Place::OutRest => ".rest",
         Place::Trace => "",
     }
 }

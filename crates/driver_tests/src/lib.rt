@@ -1,0 +1,5 @@
+//! Tests of a worker's turns over one undivided mesh, whose journals were worked out by hand.
+#![tactic(auto)]
+
+#[cfg(test)]
+mod tests;

@@ -1,0 +1,5 @@
+pub mod ChunkList
+pub mod Divided
+pub mod Listed
+pub mod Marks
+pub mod Spaced

@@ -1,0 +1,15 @@
+use Rattle.std.proofs.Common.{◌≡◌, ◌≤◌, []}
+use Rattle.std.specs.Prelude.{None}
+use Rattle.pf_holder.specs.Facts.{LendsAll}
+use Rattle.pf_driver.specs.Visits.{HasGrown, HasVisited}
+use Rattle.pf_driver.proofs.driving.start_turns.Given as goal
+
+abbrev pub invariant-starts : goal.invariant-starts
+invariant-starts g l =
+    let m = g.H.Holder in
+    m.same l.fn.h l.h
+    × ((m.pairs l.h ≡ []) × (m.unborn l.h ≡ None) × (m.owed l.h ≡ []))
+    × LendsAll (g.H.Rings.lent l.h) (m.pairs l.h)
+    × (m.seen_at l.fn.h ≤ m.seen_at l.h)
+    × HasGrown (m.allowance l.fn.h) (m.entries l.fn.h) (m.allowance l.h) (m.entries l.h)
+    × HasVisited l.chunks (m.opening l.fn.h) (m.seen_at l.fn.h) (m.gained l.fn.h l.h) (m.entries l.fn.h) (m.entries l.h) l.start l.k

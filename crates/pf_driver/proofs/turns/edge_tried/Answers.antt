@@ -1,0 +1,9 @@
+use Rattle.pf_driver.proofs.Moved.{grown_by}
+use Rattle.pf_driver.proofs.turns.edge_tried.Goals as goal
+
+pub returns-clause-grown : goal.returns-clause-grown
+returns-clause-grown g c =
+    let m = g.H.Holder in
+    let h = c.args.h.now in
+    let n = c.attempt-answer.new.h in
+    grown_by c.args.asked.chunk c.args.asked.op (m.allowance h) (m.entries h) (m.allowance n) (m.entries n) c.attempt-answer.result c.attempt-answer.ensures.entered

@@ -1,0 +1,14 @@
+-- By which chunk an operation is planned.
+use Rattle.std.specs.Prelude.{◌≡◌, ℕ, ◌<◌}
+use Rattle.pf_driver.specs.declared.planning.Plan.{Plan}
+use Rattle.pf_driver.specs.declared.planning.Plan.TheVariants.{Try}
+
+-- it is by this chunk
+abbrev pub IsPlanBy : ℕ → Plan → Type 0
+IsPlanBy chunk (Try asked left right) = asked.chunk ≡ chunk
+IsPlanBy chunk _ = Unit {0}
+
+-- it is by a chunk below this number
+abbrev pub IsPlanBelow : ℕ → Plan → Type 0
+IsPlanBelow n (Try asked left right) = asked.chunk < n
+IsPlanBelow n _ = Unit {0}

@@ -1,0 +1,10 @@
+mod Listed
+mod Lines
+mod Histories
+mod Tried
+mod Sights
+mod Walking
+mod Steps
+mod Quiet
+mod Wishing
+mod Spokes

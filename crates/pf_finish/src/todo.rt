@@ -1,0 +1,211 @@
+//! The edges that are still to be looked at: those that may have a line in the rest list, the most urgent first.
+ghost use Rattle.std.specs.Prelude.{◌≡◌, ◌<◌, [], None, IfSome};
+ghost use Rattle.pf_holder.specs.Facts.{LendsAll};
+ghost use Rattle.pf_finish.specs.Waiting.{waiting};
+
+use crate::edges::span_of;
+use pf_geom::NoMemory;
+use pf_holder::{Hold, Holder};
+use pf_model::{Band, Op};
+use pf_rings::Star;
+use pf_rules::lengths::Span;
+use pf_wishes::{EdgeLook, look};
+use std::alloc::Global;
+
+/// Four stacks of edges, by what was seen of an edge when it was put on one. In which order edges are taken is free:
+/// each is looked at anew then.
+#[derive(Drop)]
+pub struct Todo {
+    far: Vec<Span>,
+    flips: Vec<Span>,
+    long: Vec<Span>,
+    short: Vec<Span>,
+}
+
+// Puts an edge on a stack.
+fn push(stack: &mut Vec<Span>, e: Span) -> Result<(), NoMemory> {
+    stack.push(e).map_err(|_| NoMemory)
+}
+
+impl Todo {
+    /// Nothing is to be looked at.
+    pub fn new(alloc: Global) -> Todo {
+        Todo {
+            far: Vec::new(alloc),
+            flips: Vec::new(alloc),
+            long: Vec::new(alloc),
+            short: Vec::new(alloc),
+        }
+    }
+
+    // Puts an edge of which this was seen on its stack, where it may have a line.
+    fn put(&mut self, e: Span, seen: EdgeLook) -> Result<(), NoMemory> {
+        if seen.far {
+            push(&mut self.far, e)
+        } else if seen.shorter_flip {
+            push(&mut self.flips, e)
+        } else if seen.long {
+            push(&mut self.long, e)
+        } else if seen.short {
+            push(&mut self.short, e)
+        } else {
+            Ok(())
+        }
+    }
+
+    /// Takes the newest edge: of those that are far too long, else of those whose other diagonal is shorter, else of
+    /// the long ones, else of the short ones.
+    pub fn take(&mut self) -> Option<Span>
+        ensures { IfSome result (λ _. waiting self.new < waiting self.old) }
+    {
+        if let Some(e) = self.far.pop() {
+            return Some(e);
+        }
+        if let Some(e) = self.flips.pop() {
+            return Some(e);
+        }
+        if let Some(e) = self.long.pop() {
+            return Some(e);
+        }
+        self.short.pop()
+    }
+}
+
+// Puts the edge from a star's node to `x` on its stack, where it may have a line.
+fn edge_put(bands: &[Band], star: &Star, x: u32, todo: &mut Todo) -> Result<(), NoMemory> {
+    let Some(seen) = look(bands, star, x) else {
+        return Ok(());
+    };
+    todo.put(span_of(star.node(), x), seen)
+}
+
+// The same for each edge of a star.
+fn star_put(bands: &[Band], star: &Star, todo: &mut Todo) -> Result<(), NoMemory> {
+    for s in star.spokes() {
+        edge_put(bands, star, s.right, todo)?;
+        edge_put(bands, star, s.left, todo)?;
+    }
+    Ok(())
+}
+
+// The same for each edge of the star of a node that is lent.
+fn lent_put<H: Holder>(h: &H, n: u32, todo: &mut Todo) -> Result<(), NoMemory> {
+    match h.ring(n) {
+        Some(ring) => star_put(h.bands(), ring.star(), todo),
+        None => Ok(()),
+    }
+}
+
+/// Puts the edges at a node that may have a line on their stacks.
+pub fn node_put<H: Holder>(h: &mut H, n: u32, todo: &mut Todo) -> Result<(), NoMemory>
+    requires alone { H.alone h.old }
+    requires nothing { (H.pairs h.old ≡ []) × (H.unborn h.old ≡ None) × (H.owed h.old ≡ []) }
+    requires lends { LendsAll (H.lent h.old) (H.pairs h.old) }
+    ensures same { H.same h.old h.new }
+    ensures nothing { (H.pairs h.new ≡ []) × (H.unborn h.new ≡ None) × (H.owed h.new ≡ []) }
+    ensures lends { LendsAll (H.lent h.new) (H.pairs h.new) }
+    ensures kept { (H.entries h.new ≡ H.entries h.old) × (H.allowance h.new ≡ H.allowance h.old) }
+{
+    let put = match h.hold(n) {
+        Hold::Won => lent_put(h, n, todo),
+        Hold::Lost { holder: _ } => Ok(()),
+        Hold::Dead => Ok(()),
+        Hold::Never => Ok(()),
+    };
+    h.give_back();
+    put
+}
+
+// Appends the neighbours in a star.
+fn neighbours_put(star: &Star, near: &mut Vec<u32>) -> Result<(), NoMemory> {
+    for s in star.spokes() {
+        near.push(s.right).map_err(|_| NoMemory)?;
+        near.push(s.left).map_err(|_| NoMemory)?;
+    }
+    Ok(())
+}
+
+// Appends the neighbours of a node whose star is lent.
+fn lent_neighbours<H: Holder>(h: &H, n: u32, near: &mut Vec<u32>) -> Result<(), NoMemory> {
+    match h.ring(n) {
+        Some(ring) => neighbours_put(ring.star(), near),
+        None => Ok(()),
+    }
+}
+
+// Appends the neighbours of a node.
+fn neighbours_of<H: Holder>(h: &mut H, n: u32, near: &mut Vec<u32>) -> Result<(), NoMemory>
+    requires alone { H.alone h.old }
+    requires nothing { (H.pairs h.old ≡ []) × (H.unborn h.old ≡ None) × (H.owed h.old ≡ []) }
+    requires lends { LendsAll (H.lent h.old) (H.pairs h.old) }
+    ensures same { H.same h.old h.new }
+    ensures nothing { (H.pairs h.new ≡ []) × (H.unborn h.new ≡ None) × (H.owed h.new ≡ []) }
+    ensures lends { LendsAll (H.lent h.new) (H.pairs h.new) }
+    ensures kept { (H.entries h.new ≡ H.entries h.old) × (H.allowance h.new ≡ H.allowance h.old) }
+{
+    let told = match h.hold(n) {
+        Hold::Won => lent_neighbours(h, n, near),
+        Hold::Lost { holder: _ } => Ok(()),
+        Hold::Dead => Ok(()),
+        Hold::Never => Ok(()),
+    };
+    h.give_back();
+    told
+}
+
+/// Puts the edges at these nodes that may have a line on their stacks.
+pub fn nodes_put<H: Holder>(h: &mut H, names: &[u32], todo: &mut Todo) -> Result<(), NoMemory>
+    requires alone { H.alone h.old }
+    requires nothing { (H.pairs h.old ≡ []) × (H.unborn h.old ≡ None) × (H.owed h.old ≡ []) }
+    requires lends { LendsAll (H.lent h.old) (H.pairs h.old) }
+    ensures same { H.same h.old h.new }
+    ensures nothing { (H.pairs h.new ≡ []) × (H.unborn h.new ≡ None) × (H.owed h.new ≡ []) }
+    ensures lends { LendsAll (H.lent h.new) (H.pairs h.new) }
+    ensures kept { (H.entries h.new ≡ H.entries h.old) × (H.allowance h.new ≡ H.allowance h.old) }
+{
+    'names: for n in names {
+        node_put(h, *n, todo)?;
+    }
+    Ok(())
+}
+
+// The same for a node and its neighbours.
+fn around_put<H: Holder>(alloc: Global, h: &mut H, n: u32, todo: &mut Todo) -> Result<(), NoMemory>
+    requires alone { H.alone h.old }
+    requires nothing { (H.pairs h.old ≡ []) × (H.unborn h.old ≡ None) × (H.owed h.old ≡ []) }
+    requires lends { LendsAll (H.lent h.old) (H.pairs h.old) }
+    ensures same { H.same h.old h.new }
+    ensures nothing { (H.pairs h.new ≡ []) × (H.unborn h.new ≡ None) × (H.owed h.new ≡ []) }
+    ensures lends { LendsAll (H.lent h.new) (H.pairs h.new) }
+    ensures kept { (H.entries h.new ≡ H.entries h.old) × (H.allowance h.new ≡ H.allowance h.old) }
+{
+    let mut near = Vec::new(alloc);
+    neighbours_of(h, n, &mut near)?;
+    nodes_put(h, &near, todo)?;
+    node_put(h, n, todo)
+}
+
+/// The same for the nodes whose stars an operation changed: the node that it left, or both ends of its edge, and what
+/// stands round it.
+pub fn changed_put<H: Holder>(
+    alloc: Global,
+    h: &mut H,
+    op: Op,
+    todo: &mut Todo,
+) -> Result<(), NoMemory>
+    requires alone { H.alone h.old }
+    requires nothing { (H.pairs h.old ≡ []) × (H.unborn h.old ≡ None) × (H.owed h.old ≡ []) }
+    requires lends { LendsAll (H.lent h.old) (H.pairs h.old) }
+    ensures same { H.same h.old h.new }
+    ensures nothing { (H.pairs h.new ≡ []) × (H.unborn h.new ≡ None) × (H.owed h.new ≡ []) }
+    ensures lends { LendsAll (H.lent h.new) (H.pairs h.new) }
+    ensures kept { (H.entries h.new ≡ H.entries h.old) × (H.allowance h.new ≡ H.allowance h.old) }
+{
+    let (a, b) = match op {
+        Op::Flip { a, b } => (a, b),
+        Op::Bisect { a, b } => (a, b),
+        Op::Contract { u: _, v } => (v, v),
+    };
+    around_put(alloc, h, a, todo)?;
+    node_put(h, b, todo)
+}

@@ -1,0 +1,10 @@
+pub mod Stepping
+pub mod Turning
+pub mod Keeping
+pub mod Seating
+pub mod Flags
+pub mod Opens
+pub mod Parting
+pub mod Owning
+pub mod Counting
+pub mod Taking

@@ -1,0 +1,4 @@
+pub mod Placed
+pub mod Begun
+pub mod Commits
+pub mod Names

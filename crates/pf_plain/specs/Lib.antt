@@ -1,0 +1,4 @@
+pub mod Stars
+pub mod Plains
+pub mod PlainLaws
+pub mod Views

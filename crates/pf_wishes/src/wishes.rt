@@ -1,0 +1,128 @@
+//! The first wish at a node.
+ghost use Rattle.std.specs.Prelude.{◌≡◌, ◌==◌, ◌&&◌, ◌||◌, ◌∷◌, [], cond, filter, fold, map, min, max, Option, Some, None};
+ghost use Rattle.std.specs.List.{list_any};
+ghost use Rattle.pf_model.specs.Rows.{lesser, least_that, neighbours};
+ghost use Rattle.pf_wishes.specs.Looks.{acting_shown, is_long_shown, is_short_shown};
+ghost use Rattle.pf_wishes.specs.First.{is_wish, wish_at, first_wish_of};
+
+use crate::edge_sights::{acting_of, length_at, rising_sides, row_at};
+use crate::measures::{is_over, is_under};
+use pf_core_model::Asked;
+use pf_model::{Band, Op, Spoke};
+use pf_rings::Star;
+
+// Whether the chunk is one of these.
+fn is_among(chunks: &[u16], chunk: u16) -> bool
+    ensures { result ≡ list_any (λ c. c == chunk) chunks.now }
+{
+    chunks.iter().any(|c| *c == chunk)
+}
+
+// Whether the edge to `x` is long or short.
+fn is_amiss(bands: &[Band], star: &Star, x: u32) -> bool
+    ensures { result ≡ (is_long_shown bands.now star.now x || is_short_shown bands.now star.now x) }
+{
+    let row = row_at(bands, star, x);
+    let len2 = length_at(star, x);
+    is_over(row, len2) || is_under(row, len2)
+}
+
+// Whether the edge to `x` is long or short, and one of the chunks acts on it.
+#[tactic(auto, unfolding(crate::specs::First::is_wish))]
+fn is_wished(bands: &[Band], chunks: &[u16], star: &Star, x: u32) -> bool
+    ensures { result ≡ is_wish bands.now chunks.now star.now x }
+{
+    is_among(chunks, acting_of(rising_sides(star, x))) && is_amiss(bands, star, x)
+}
+
+// The least so far, and this neighbour where its edge is wished for.
+fn lesser_wished(
+    bands: &[Band],
+    chunks: &[u16],
+    star: &Star,
+    least: Option<u32>,
+    x: u32,
+) -> Option<u32>
+    ensures { result ≡ fold lesser least (filter (is_wish bands.now chunks.now star.now) (x ∷ [])) }
+{
+    match least {
+        Some(k) if k <= x => Some(k),
+        _ => {
+            if is_wished(bands, chunks, star, x) {
+                Some(x)
+            } else {
+                least
+            }
+        }
+    }
+}
+
+// The least right of these spokes whose edge is wished for.
+fn least_right(bands: &[Band], chunks: &[u16], star: &Star, spokes: &[Spoke]) -> Option<u32>
+    ensures { result ≡ least_that (is_wish bands.now chunks.now star.now) (map (λ s. s.right) spokes.now) }
+{
+    let mut least = None;
+    for s in spokes {
+        least = lesser_wished(bands, chunks, star, least, s.right);
+    }
+    least
+}
+
+// The least so far, with the lefts of these spokes more.
+fn least_left(
+    bands: &[Band],
+    chunks: &[u16],
+    star: &Star,
+    spokes: &[Spoke],
+    least: Option<u32>,
+) -> Option<u32>
+    ensures { result ≡ fold lesser least (filter (is_wish bands.now chunks.now star.now) (map (λ s. s.left) spokes.now)) }
+{
+    let mut found = least;
+    for s in spokes {
+        found = lesser_wished(bands, chunks, star, found, s.left);
+    }
+    found
+}
+
+// The least neighbour whose edge is wished for.
+fn least_wished(bands: &[Band], chunks: &[u16], star: &Star) -> Option<u32>
+    ensures { result ≡ least_that (is_wish bands.now chunks.now star.now) (neighbours star.now.spokes) }
+{
+    let least = least_right(bands, chunks, star, star.spokes());
+    least_left(bands, chunks, star, star.spokes(), least)
+}
+
+// The wish at the edge to `x`.
+fn wish_to(bands: &[Band], star: &Star, x: u32) -> Asked
+    ensures { result ≡ wish_at bands.now star.now x }
+{
+    let n = star.node();
+    let chunk = acting_of(rising_sides(star, x));
+    if is_over(row_at(bands, star, x), length_at(star, x)) {
+        Asked {
+            chunk,
+            op: Op::Bisect {
+                a: n.min(x),
+                b: n.max(x),
+            },
+        }
+    } else {
+        Asked {
+            chunk,
+            op: Op::Contract { u: n, v: x },
+        }
+    }
+}
+
+/// The first wish in a star: at its least neighbour whose edge is long or short, with an acting chunk in `chunks`.
+/// It is the bisection of that edge where it is long, else the contraction of the star's node onto the neighbour,
+/// by the acting chunk.
+pub fn first_wish(bands: &[Band], chunks: &[u16], star: &Star) -> Option<Asked>
+    ensures { result ≡ first_wish_of bands.now chunks.now star.now }
+{
+    match least_wished(bands, chunks, star) {
+        Some(x) => Some(wish_to(bands, star, x)),
+        None => None,
+    }
+}

@@ -1,0 +1,4 @@
+pub mod Arguments
+pub mod OneWord
+pub mod Walks
+pub mod Forms
