@@ -12,17 +12,10 @@
 # Each time is the best of RUNS runs (5 if unset), of the whole process. Where YARDSTICK names a program that takes the same
 # words and files without the command's name, its time stands beside in the same row.
 set -euo pipefail
-cd "$(dirname "$0")/.."
+. "$(dirname "$0")/program.sh"
 runs=${RUNS:-5}
 operations=${OPERATIONS:-1000000}
 yardstick=${YARDSTICK:-}
-work=$(mktemp -d)
-trap 'rm -rf "$work"' EXIT
-
-(cd crates/parfum && rt run >/dev/null 2>&1) || true
-program=$PWD/crates/parfum/out/parfum
-[[ -x $program ]] || { echo "crates/parfum isn't built" >&2; exit 1; }
-cd "$work"
 
 # A grid of n by n cells, each cut by its longer diagonal, and a journal of at most so many operations: on the first round
 # each diagonal is bisected, the new node contracted away and the diagonal flipped, on later rounds the first two.
@@ -79,7 +72,7 @@ make_grid() {
 }
 
 # The best time in seconds of a program on a mesh and a journal, and its peak memory in KB. The status doesn't matter.
-best() {
+best_of() {
     for ((run = 0; run < runs; run++)); do
         /usr/bin/time -q -f "%e %M" -o took "$1" replay "$2" "$3" >said 2>/dev/null || true
         cat took
@@ -97,10 +90,9 @@ best_microseconds() {
     done | sort -n | head -n 1
 }
 
-# As `best`, for a run that is to be done.
+# As `best_of`, for a run on the grid that is to be done.
 best_done() {
-    "$1" replay g "$2" >said 2>/dev/null || { cat said >&2; exit 1; }
-    best "$1" g "$2"
+    best "$1" replay g "$2"
 }
 
 # The yardstick takes its words without the command.
@@ -114,8 +106,8 @@ echo "| Date | Cores | Runs | Triangles | Read | Read, built | Whole | Peak KB |
 echo "|---|---|---|---|---|---|---|---|---|"
 for side in 22 70 223 707; do
     make_grid "$side"
-    read -r reads _ < <(best "$program" long empty)
-    read -r builds _ < <(best "$program" bare empty)
+    read -r reads _ < <(best_of "$program" long empty)
+    read -r builds _ < <(best_of "$program" bare empty)
     read -r whole peak < <(best_done "$program" empty)
     echo "| $(date +%F) | $(nproc) | $runs | $((2 * side * side)) | $reads s | $builds s | $whole s | $peak | $(other empty) |"
 done

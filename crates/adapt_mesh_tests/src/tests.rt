@@ -4,11 +4,13 @@ ghost use Rattle.pf_model.specs.Applied.{IsFresh};
 ghost use Rattle.pf_model.specs.Conforming.{HasDefault};
 
 use pf_adapt::{Adapted, adapt, is_quiet};
+use pf_driver::OpenGate;
 use pf_geom::Point;
 use pf_mesh::{Band, Entry, Mesh, Op, build};
 use std::alloc::Global;
 use std::process::Abort;
 use std::test::Fail;
+use std::thread::Threads;
 
 const SQUARE: [Point; 4] = [
     Point { x: 0, y: 0 },
@@ -110,13 +112,20 @@ fn kite(alloc: Global) -> Result<Mesh, Fail>
     Ok(mesh)
 }
 
-// Adapts the mesh.
-fn adapted(alloc: Global, mesh: Mesh, budget: u32) -> Result<Adapted, Fail>
+// Adapts the mesh by so many workers.
+fn adapted<R: Threads + Sync>(
+    rt: &R,
+    alloc: Global,
+    mesh: Mesh,
+    budget: u32,
+    workers: u32,
+) -> Result<Adapted, Fail>
     requires fresh { IsFresh mesh.mesh 0 }
     requires few { mesh.mesh.first_new ≤ 1000 }
     requires few_operations { budget ≤ 1000 }
+    requires workers { (1 ≤ workers) × (workers ≤ 64) }
 {
-    let adapted = adapt(alloc, mesh, budget)?;
+    let adapted = adapt(rt, alloc, mesh, budget, workers, 1000, &OpenGate)?;
     Ok(adapted)
 }
 
@@ -124,7 +133,7 @@ fn adapted(alloc: Global, mesh: Mesh, budget: u32) -> Result<Adapted, Fail>
 fn bisects_the_long_diagonal(rt: HostRuntime) -> Result<(), Fail> {
     let alloc = rt.alloc();
     let mesh = square(alloc)?;
-    let a = adapted(alloc, mesh, 1)?;
+    let a = adapted(&rt, alloc, mesh, 1, 1)?;
     let first = Entry {
         ticket: 0,
         chunk: 0,
@@ -140,7 +149,7 @@ fn bisects_the_long_diagonal(rt: HostRuntime) -> Result<(), Fail> {
 fn leaves_a_line_without_a_budget(rt: HostRuntime) -> Result<(), Fail> {
     let alloc = rt.alloc();
     let mesh = square(alloc)?;
-    let a = adapted(alloc, mesh, 0)?;
+    let a = adapted(&rt, alloc, mesh, 0, 2)?;
     assert_eq!(rt; a.journal.len(), 0);
     assert!(rt; !is_quiet(&a.rest));
     Ok(())
@@ -150,7 +159,7 @@ fn leaves_a_line_without_a_budget(rt: HostRuntime) -> Result<(), Fail> {
 fn leaves_what_is_fine(rt: HostRuntime) -> Result<(), Fail> {
     let alloc = rt.alloc();
     let mesh = coarse_square(alloc)?;
-    let a = adapted(alloc, mesh, 1)?;
+    let a = adapted(&rt, alloc, mesh, 1, 3)?;
     assert_eq!(rt; a.journal.len(), 0);
     assert!(rt; is_quiet(&a.rest));
     Ok(())
@@ -160,7 +169,7 @@ fn leaves_what_is_fine(rt: HostRuntime) -> Result<(), Fail> {
 fn spends_the_budget(rt: HostRuntime) -> Result<(), Fail> {
     let alloc = rt.alloc();
     let mesh = kite(alloc)?;
-    let a = adapted(alloc, mesh, 40)?;
+    let a = adapted(&rt, alloc, mesh, 40, 2)?;
     assert_eq!(rt; a.journal.len(), 40);
     assert!(rt; !is_quiet(&a.rest));
     Ok(())

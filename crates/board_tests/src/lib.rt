@@ -2,4 +2,8 @@
 #![tactic(auto)]
 
 #[cfg(test)]
+mod seats;
+#[cfg(test)]
+mod square;
+#[cfg(test)]
 mod tests;

@@ -2,10 +2,12 @@
 
 use itoa::Buffer;
 use pf_cmd::run;
+use pf_driver::OpenGate;
 use pf_shelf::{Call, Kind, MemShelf, MemSink};
 use std::alloc::{AllocError, Global};
 use std::process::Abort;
 use std::test::Fail;
+use std::thread::Threads;
 
 mod again;
 mod limits;
@@ -96,7 +98,7 @@ fn holds(shelf: &MemShelf, name: &str, bytes: &[u8]) -> bool {
 
 // Runs, and holds the status and what is said against these.
 fn assert_run(
-    rt: &(impl Abort + AllocGlobal),
+    rt: &(impl Abort + AllocGlobal + Threads + Sync),
     words: &[&str],
     shelf: &mut MemShelf,
     status: u8,
@@ -104,14 +106,17 @@ fn assert_run(
 ) -> Result<(), Fail> {
     let mut out = MemSink::new(rt.alloc(), Vec::new(rt.alloc()));
     out.room(1000)?;
-    assert_eq!(rt; run(rt.alloc(), words, shelf, &mut out), status);
+    assert_eq!(rt;
+        run(rt, rt.alloc(), words, shelf, &mut out, &OpenGate),
+        status
+    );
     assert!(rt; out.text() == said);
     Ok(())
 }
 
 // A run of the kite with this journal is refused, and writes nothing.
 fn assert_refused(
-    rt: &(impl Abort + AllocGlobal),
+    rt: &(impl Abort + AllocGlobal + Threads + Sync),
     journal: &[u8],
     status: u8,
     said: &[u8],
@@ -129,7 +134,7 @@ fn assert_refused(
 
 // A run of the kite fails in this call.
 fn assert_fails(
-    rt: &(impl Abort + AllocGlobal),
+    rt: &(impl Abort + AllocGlobal + Threads + Sync),
     kind: Kind,
     nth: u64,
     status: u8,
@@ -231,7 +236,7 @@ fn a_file_that_is_missing_is_named(rt: HostRuntime) -> Result<(), Fail> {
 
 // A run of the kite whose read of this number, counted from 0, fails.
 fn assert_unread(
-    rt: &(impl Abort + AllocGlobal),
+    rt: &(impl Abort + AllocGlobal + Threads + Sync),
     words: &[&str],
     nth: u64,
     said: &[u8],
@@ -289,7 +294,17 @@ fn a_sink_that_fails_ends_the_run_with_4(rt: HostRuntime) -> Result<(), Fail> {
     let mut shelf = kite(alloc, KITE_FLIP, Vec::new(alloc))?;
     let mut out = MemSink::new(alloc, vec![in alloc; 0]?);
     out.room(1000)?;
-    assert_eq!(rt; run(alloc, &["replay", "k", "o"], &mut shelf, &mut out), 4);
+    assert_eq!(rt;
+        run(
+            &rt,
+            alloc,
+            &["replay", "k", "o"],
+            &mut shelf,
+            &mut out,
+            &OpenGate
+        ),
+        4
+    );
     assert!(rt; holds(&shelf, "o.ele", FLIPPED_ELE));
     Ok(())
 }

@@ -2,4 +2,8 @@
 #![tactic(auto)]
 
 #[cfg(test)]
+mod circle;
+#[cfg(test)]
+mod gate;
+#[cfg(test)]
 mod tests;

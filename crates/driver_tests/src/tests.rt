@@ -4,7 +4,8 @@ ghost use Rattle.pf_model.specs.Applied.{IsFresh};
 ghost use Rattle.pf_model.specs.Conforming.{HasDefault};
 ghost use Rattle.pf_plain.specs.Views.{opening_in, pairs_in};
 
-use pf_driver::{DriveEnd, OpenGate, drive};
+use crate::gate::CountingGate;
+use pf_driver::{DriveEnd, Gate, OpenGate, drive};
 use pf_geom::Point;
 use pf_mesh::{Band, Entry, Mesh, Op, build};
 use pf_plain::Plain;
@@ -60,13 +61,22 @@ fn held(alloc: Global, budget: u32) -> Result<Plain, Fail>
     Ok(plain)
 }
 
-// Drives the one chunk, from all nodes of the square.
+// Drives the one chunk, from all nodes of the square, by way of a gate.
+fn driven_by<G: Gate>(alloc: Global, plain: &mut Plain, turns: u32, gate: &G) -> DriveEnd
+    requires nothing { pairs_in plain.old ≡ [] }
+    requires names { (opening_in plain.old).mesh.first_new ≡ 4 }
+    requires chunks { (opening_in plain.old).mesh.chunks ≡ 1 }
+{
+    drive(alloc, plain, 0, &[0], &[0, 1, 2, 3], turns, gate)
+}
+
+// The same by an open gate.
 fn driven(alloc: Global, plain: &mut Plain, turns: u32) -> DriveEnd
     requires nothing { pairs_in plain.old ≡ [] }
     requires names { (opening_in plain.old).mesh.first_new ≡ 4 }
     requires chunks { (opening_in plain.old).mesh.chunks ≡ 1 }
 {
-    drive(alloc, plain, 0, &[0], &[0, 1, 2, 3], turns, &OpenGate)
+    driven_by(alloc, plain, turns, &OpenGate)
 }
 
 // The one entry that there may be.
@@ -105,5 +115,34 @@ fn makes_no_turn(rt: HostRuntime) -> Result<(), Fail> {
     assert_eq!(rt; driven(alloc, &mut plain, 0), DriveEnd::Done);
     let (_, journal) = plain.end()?;
     assert_eq!(rt; journal.len(), 0);
+    Ok(())
+}
+
+#[test]
+fn passes_the_gate_once_a_turn(rt: HostRuntime) -> Result<(), Fail> {
+    let alloc = rt.alloc();
+    let mut plain = held(alloc, 2)?;
+    let gate = CountingGate::new();
+    assert_eq!(rt; driven_by(alloc, &mut plain, 3, &gate), DriveEnd::Done);
+    assert_eq!(rt; gate.turns(), Some(3));
+    let mut plain = held(alloc, 2)?;
+    let gate = CountingGate::new();
+    assert_eq!(rt; driven_by(alloc, &mut plain, 100, &gate), DriveEnd::Done);
+    let turns = gate.turns().unwrap_or(0);
+    assert_eq!(rt; turns >= 4 && turns <= 100, true);
+    Ok(())
+}
+
+#[test]
+fn stops_at_the_gate_once_all_is_spent(rt: HostRuntime) -> Result<(), Fail> {
+    let alloc = rt.alloc();
+    let mut plain = held(alloc, 1)?;
+    let gate = CountingGate::new();
+    assert_eq!(rt; driven_by(alloc, &mut plain, 100, &gate), DriveEnd::Spent);
+    assert_eq!(rt; gate.turns(), Some(1));
+    let mut plain = held(alloc, 0)?;
+    let gate = CountingGate::new();
+    assert_eq!(rt; driven_by(alloc, &mut plain, 100, &gate), DriveEnd::Spent);
+    assert_eq!(rt; gate.turns(), Some(0));
     Ok(())
 }

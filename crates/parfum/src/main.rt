@@ -3,11 +3,14 @@
 #![tactic(auto)]
 
 use pf_cmd::run;
+use pf_driver::OpenGate;
 use pf_shelf::{FileShelf, StdSink, WriteErr, say_all};
 use std::alloc::AllocError;
 use std::env;
-use std::io::ErrorKind;
+use std::fs::Files;
+use std::io::{ErrorKind, Print};
 use std::process::ExitCode;
+use std::thread::Threads;
 
 /// The status where the system doesn't give the words as text. Nothing is said then.
 const WORDS_REFUSED: u8 = 2;
@@ -34,14 +37,17 @@ fn main(rt: HostRuntime) -> ExitCode {
 }
 
 // Runs the command that the words behind the program's name ask for.
-fn run_words(rt: &HostRuntime, texts: &[String]) -> Result<u8, AllocError> {
+fn run_words<R: AllocGlobal + Files + Print + Threads + Sync>(
+    rt: &R,
+    texts: &[String],
+) -> Result<u8, AllocError> {
     let mut words = Vec::new(rt.alloc());
     for text in texts {
         words.push(text.as_str())?;
     }
     let mut shelf = FileShelf::new(rt);
     let mut out = StdSink::new(rt);
-    Ok(run(rt.alloc(), &words, &mut shelf, &mut out))
+    Ok(run(rt, rt.alloc(), &words, &mut shelf, &mut out, &OpenGate))
 }
 
 // Says that memory ran out before a run could begin.

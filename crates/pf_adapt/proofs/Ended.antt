@@ -1,31 +1,50 @@
--- What follows of the mesh and the journal at the start and at the end.
-use Rattle.std.proofs.Common.{◌≡◌, ◌∙◌, ◌≤◌, ℕ, List, [], length, sym, ap, subst}
-use Rattle.std.specs.Prelude.{Contains, map}
+-- What a mesh, its history and its parts are to one who began with the mesh.
+use Rattle.std.proofs.Common.{◌≡◌, ◌≤◌, ◌<◌, ℕ, List, length, sym, ap, subst, arith}
+use Rattle.std.specs.Prelude.{All, slice_index_or}
+use Rattle.std.specs.List.{range_with_len}
+use Rattle.std.proofs.lemmas.List.Elements.{All-filter}
+use Rattle.std.proofs.lemmas.List.FromFn.{length-range_with_len, get_or-range_with_len}
 use Rattle.pf_model.specs.declared.Entry.{Entry}
-use Rattle.pf_model.specs.declared.Site.{Site}
-use Rattle.pf_model.specs.Conforming.{IsLive}
 use Rattle.pf_model.specs.Mesh.{Undivided}
-use Rattle.pf_model.specs.Replay.{replayed, IsLegal}
-use Rattle.pf_cover_model.proofs.ContractCounts.{live-named}
-use Rattle.pf_core_model.specs.Core.{Opening}
-use Rattle.pf_holder.specs.Facts.{history_in, mesh_alone}
-use Rattle.pf_plain.specs.Plains.{opening_of}
+use Rattle.pf_core_model.specs.Core.{Opening, mesh_after}
+use Rattle.pf_core_model.specs.Seats.{own_log}
+use Rattle.pf_core_model.specs.Guards.{IsAlone}
+use Rattle.pf_locks.specs.declared.seat.BoardSeat.{BoardSeat}
+use Rattle.pf_locks.specs.Seats.{IsSeat}
+use Rattle.pf_workers.specs.declared.parts.Part.{Part}
+use Rattle.pf_workers.specs.Parts.{chunks_for, starts_for}
+use Rattle.pf_workers.specs.Jobs.{IsPartOf}
 use Rattle.pf_adapt.specs.Adapted.{HasEnded, IsAdapted}
 use Rattle.pf_adapt.proofs.Owned.{legal-owned}
 
--- where nothing was done, each live name is that of a node of the mesh
-pub all-live : (m : Undivided) (budget : ℕ) (o : Opening) (entries : List Entry) (sites : List Site) (live shown : List ℕ) → o ≡ opening_of m budget → entries ≡ [] → sites ≡ m.sites → live ≡ map (λ (s : Site). s.name) sites → shown ≡ live → (n : ℕ) → IsLive (mesh_alone o entries) n → Contains shown n
-all-live m budget o entries sites live shown a b s l d n h =
-    let k : IsLive m n = subst (λ (x : List Entry). IsLive (mesh_alone (opening_of m budget) x) n) b (subst (λ (x : Opening). IsLive (mesh_alone x entries) n) a h) in
-    subst (λ (v : List ℕ). Contains v n) (sym (d ∙ l ∙ ap (λ (z : List Site). map (λ (s : Site). s.name) z) s)) (live-named m.sites n k)
+below : (n : ℕ) → All (λ k. k < n) (range_with_len 0 n)
+below n k d low = let l = length-range_with_len 0 n in let near : k < n = omega (arith, l, low) in let at = get_or-range_with_len 0 n k d near in omega (arith, at, near)
 
--- the journal is the history of one who began with the mesh and ended
-pub adapted-by : (o later : Opening) (entries journal : List Entry) → later ≡ o → journal ≡ history_in entries → IsLegal later.mesh journal → length (history_in entries) ≤ o.budget → HasEnded (mesh_alone o entries) o.budget (length (history_in entries)) → IsAdapted o.mesh o.budget journal
-adapted-by o later entries journal same is legal within ended =
-    let l : IsLegal o.mesh journal = subst (λ (x : Opening). IsLegal x.mesh journal) same legal in
-    record {
-      legal = l;
-      within = subst (λ (j : List Entry). length j ≤ o.budget) (sym is) within;
-      owned = legal-owned 0 o.mesh journal l;
-      ended = subst (λ (j : List Entry). HasEnded (replayed o.mesh j) o.budget (length j)) (sym is) ended;
-    }
+-- the part of a worker is one of the mesh
+pub part_of : (m o : Undivided) (part : Part) (workers w : ℕ) → o ≡ m → part.chunks.items ≡ chunks_for workers w m.chunks → part.start.items ≡ starts_for m workers w → IsPartOf o part
+part_of m o part workers w same chunks start =
+    subst (λ (x : Undivided). IsPartOf x part) (sym same)
+    (record {
+      chunks = subst (λ (l : List ℕ). All (λ c. c < m.chunks) l) (sym chunks) (All-filter _ (λ c. c < m.chunks) (range_with_len 0 m.chunks) (below m.chunks));
+      start = subst (λ (l : List ℕ). All (λ n. n < m.first_new) l) (sym start) (All-filter _ (λ n. n < m.first_new) (range_with_len 0 m.first_new) (below m.first_new));
+    })
+
+-- the journal is the history of a seat that is alone, and ended
+pub adapted-by : (o : Opening) (m : Undivided) (budget : ℕ) (s : BoardSeat) (journal : List Entry) → o.mesh ≡ m → o.budget ≡ budget → IsSeat o s → IsAlone s.seat.me.0 → journal ≡ own_log s.seat.me.0 → HasEnded (mesh_after o (own_log s.seat.me.0)) o.budget (length (own_log s.seat.me.0)) → IsAdapted m budget journal
+adapted-by o m budget s journal same rich seat alone is ended =
+    let w = seat.knows.1 alone in
+    let log = own_log s.seat.me.0 in
+    let long = w.long in
+    let paid = w.budget in
+    let within : length log ≤ o.budget = omega (arith, long, paid) in
+    subst (λ (j : List Entry). IsAdapted m budget j) (sym is)
+    (subst (λ (b : ℕ). IsAdapted m b log) rich
+    (subst (λ (x : Undivided). IsAdapted x o.budget log) same
+    (record { legal = w.legal; within = within; owned = legal-owned 0 o.mesh log w.legal; ended = ended })))
+
+-- the parts of all workers
+pub parts_are : (m o : Undivided) (workers : ℕ) (parts now : List Part) → o ≡ m → now ≡ parts → length parts ≡ workers → ((w : ℕ) (d : Part) → w < workers → (slice_index_or parts w d).chunks.items ≡ chunks_for workers w m.chunks) → ((w : ℕ) (d : Part) → w < workers → (slice_index_or parts w d).start.items ≡ starts_for m workers w) → (w : ℕ) (d : Part) → w < length now → IsPartOf o (slice_index_or now w d)
+parts_are m o workers parts now same is long chunks start w d low =
+    let l = ap (λ (x : List Part). length x) is in
+    let near : w < workers = omega (arith, l, long, low) in
+    subst (λ (x : List Part). IsPartOf o (slice_index_or x w d)) (sym is) (part_of m o (slice_index_or parts w d) workers w same (chunks w d near) (start w d near))

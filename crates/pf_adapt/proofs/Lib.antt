@@ -1,3 +1,10 @@
 pub mod Known
 pub mod Owned
+pub mod Places
+pub mod Sharing
+pub mod Joining
+pub mod Jobs
+pub mod Driven
+pub mod Finishing
 pub mod Ended
+pub mod Rising

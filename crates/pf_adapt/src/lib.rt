@@ -2,6 +2,7 @@
 #![tactic(auto)]
 
 mod adapting;
+mod crew;
 mod lists;
 mod quiet;
 mod work;

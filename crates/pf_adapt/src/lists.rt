@@ -1,17 +1,17 @@
 //! The list that the last pass is given.
-ghost use Rattle.std.specs.Prelude.{◌≡◌, IfOk, map};
+ghost use Rattle.std.specs.Prelude.{◌≡◌, IfOk};
+ghost use Rattle.std.specs.List.{range_with_len};
 
 use pf_geom::NoMemory;
-use pf_model::Site;
 use std::alloc::Global;
 
-/// The names of the nodes, as they stand.
-pub(crate) fn names_of(alloc: Global, sites: &[Site]) -> Result<Vec<u32>, NoMemory>
-    ensures { IfOk result (λ v. v.items ≡ map (λ s. s.name) sites.now) }
+/// The names below this one, rising.
+pub(crate) fn names_below(alloc: Global, end: u32) -> Result<Vec<u32>, NoMemory>
+    ensures { IfOk result (λ v. v.items ≡ range_with_len 0 end) }
 {
-    let mut list = Vec::with_capacity(alloc, sites.len()).map_err(|_| NoMemory)?;
-    for site in sites {
-        list.push(site.name).map_err(|_| NoMemory)?;
+    let mut list = Vec::with_capacity(alloc, end as usize).map_err(|_| NoMemory)?;
+    'names: for n in 0..end {
+        list.push(n).map_err(|_| NoMemory)?;
     }
     Ok(list)
 }

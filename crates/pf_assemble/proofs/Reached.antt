@@ -1,8 +1,7 @@
 -- Marks of the nodes that a chunk shares, and the triangles that they reach.
-use Rattle.std.proofs.Common.{◌≡◌, ◌∙◌, ℕ, List, [], ◌∷◌, ◌++◌, flat_map, ap, refl, sym, Bool, true, false, cond, not, ◌&&◌, ◌||◌, ◌==◌}
+use Rattle.std.proofs.Common.{◌≡◌, ◌∙◌, ℕ, List, [], ◌∷◌, flat_map, refl, Bool, true, false, not, ◌&&◌, ◌||◌, ◌==◌}
 use Rattle.std.specs.Prelude.{filter}
 use Rattle.pf_model.specs.declared.Tri.{Tri}
-use Rattle.pf_model.specs.Mesh.{has_corner}
 use Rattle.pf_assemble.specs.ChunkList.{owns_at, is_ghost}
 use Rattle.pf_assemble.specs.Marks.{is_marked, is_reached, reached}
 use Rattle.pf_assemble.proofs.Loops.{picked, alone}

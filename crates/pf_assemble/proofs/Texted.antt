@@ -1,5 +1,5 @@
 -- The chunk list of a mesh by its stars and triangles.
-use Rattle.std.proofs.Common.{◌≡◌, ◌∙◌, ℕ, List, [], ◌∷◌, ◌++◌, flat_map, ap, refl, sym, subst, length, append_assoc, append-nil, Option, Some, None, Bool, true, false, cond}
+use Rattle.std.proofs.Common.{◌≡◌, ◌∙◌, ℕ, List, [], ◌∷◌, ◌++◌, flat_map, ap, refl, sym, subst, length, append_assoc, Option, Some, Bool, true, false, cond}
 use Rattle.std.specs.Prelude.{filter, map, filter_map, decimal}
 use Rattle.std.specs.List.{join_with_byte, range_with_len}
 use Rattle.std.specs.Option.{option_map}
@@ -15,7 +15,8 @@ use Rattle.pf_star_model.specs.Copies.{Copy, due_copy, copies_at, copies_of}
 use Rattle.pf_star.specs.declared.copies.ChunkCopy.{ChunkCopy}
 use Rattle.pf_assemble.specs.declared.lines.Counts.{Counts}
 use Rattle.pf_assemble.specs.ChunkList.{is_ghost, owned_by, ghosts_at, is_shared_by_others, shared_words, ghost_words, chunk_lines_at, chunk_list_of}
-use Rattle.pf_assemble.specs.Divided.{shown_copy, copies_in}
+use Rattle.pf_locks.specs.Closes.{shown_copy}
+use Rattle.pf_assemble.specs.Divided.{copies_in}
 use Rattle.pf_assemble.specs.Listed.{shared_in, counts_of, part_text}
 use Rattle.pf_assemble.specs.Spaced.{spaced, counts_words}
 

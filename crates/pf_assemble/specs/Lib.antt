@@ -3,3 +3,4 @@ pub mod Divided
 pub mod Listed
 pub mod Marks
 pub mod Spaced
+pub mod Whole

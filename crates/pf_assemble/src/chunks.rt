@@ -3,7 +3,8 @@ ghost use Rattle.std.specs.Prelude.{◌≡◌, ◌==◌, ◌++◌, IfOk, OnOk, f
 ghost use Rattle.std.specs.List.{range_with_len};
 ghost use Rattle.pf_model.specs.Texts.{line_text};
 ghost use Rattle.pf_assemble.specs.ChunkList.{chunk_list_of, is_shared_by_others, ghost_words, shared_words};
-ghost use Rattle.pf_assemble.specs.Divided.{shown_copy, copies_in};
+ghost use Rattle.pf_locks.specs.Closes.{shown_copy};
+ghost use Rattle.pf_assemble.specs.Divided.{copies_in};
 ghost use Rattle.pf_assemble.specs.Listed.{part_text};
 ghost use Rattle.pf_assemble.specs.Spaced.{counts_words};
 

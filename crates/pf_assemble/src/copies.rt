@@ -1,7 +1,8 @@
 //! The copies that the chunks of a mesh have.
 ghost use Rattle.std.specs.Prelude.{◌≡◌, [], ◌∷◌, ◌++◌, IfOk, OnOk, map, flat_map};
 ghost use Rattle.std.specs.List.{range_with_len};
-ghost use Rattle.pf_assemble.specs.Divided.{IsDivided, shown_copy, copies_in};
+ghost use Rattle.pf_locks.specs.Closes.{AreCopiesOf, shown_copy};
+ghost use Rattle.pf_assemble.specs.Divided.{copies_in};
 
 use pf_geom::NoMemory;
 use pf_mesh::Mesh;
@@ -13,7 +14,7 @@ use std::alloc::Global;
 /// Divides a mesh: each chunk gets the star of each node at which it owns a triangle. The copies rise by chunk and node.
 /// Want of memory is the only failure.
 pub fn divide(alloc: Global, m: &Mesh) -> Result<Copies, NoMemory>
-    ensures { IfOk result (λ copies. IsDivided m.now.mesh copies) }
+    ensures { IfOk result (λ copies. AreCopiesOf m.now.mesh copies) }
 {
     let stars = m.stars(alloc)?;
     let list = copies_for(alloc, &stars, m.chunks())?;

@@ -4,7 +4,7 @@ ghost use Rattle.std.specs.List.{range_with_len};
 ghost use Rattle.pf_model.specs.Stars.{keeper_in};
 ghost use Rattle.pf_model.specs.Texts.{line_text};
 ghost use Rattle.pf_assemble.specs.ChunkList.{shared_words, ghost_words};
-ghost use Rattle.pf_assemble.specs.Divided.{shown_copy};
+ghost use Rattle.pf_locks.specs.Closes.{shown_copy};
 ghost use Rattle.pf_assemble.specs.Spaced.{spaced_other, counts_words};
 
 use pf_model::{Spoke, Tri};

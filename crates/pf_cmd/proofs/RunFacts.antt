@@ -1,5 +1,5 @@
 -- What the status of a run shows.
-use Rattle.std.proofs.Common.{◌≡◌, ◌≢◌, ◌<◌, ℕ, List, Option, refl, sym, ◌∙◌, ap, subst, Some, None, Result, Ok, Err, true, arith, ◌⊎◌, inl, inr}
+use Rattle.std.proofs.Common.{option_map, ◌≡◌, ◌≢◌, ◌<◌, ℕ, List, Option, refl, sym, ◌∙◌, ap, subst, Some, None, Result, Ok, Err, true, arith, ◌⊎◌, inl, inr}
 use Rattle.pf_shelf.specs.Count.{Rose}
 use Rattle.pf_shelf.specs.Files.{Tells, held, IsAsBefore}
 use Rattle.pf_shelf.specs.Seen.{Seen, Heard}
@@ -8,18 +8,23 @@ use Rattle.pf_say.specs.declared.stop.Trouble.TheVariants.{Missing, Unread, Unwr
 use Rattle.pf_say.specs.declared.stop.Stop.{Stop}
 use Rattle.pf_say.specs.declared.stop.Stop.TheVariants.{Input, Limit, Operation, Device}
 use Rattle.pf_say.specs.Stop.{status_of, line_of}
-use Rattle.pf_cmd.specs.Words.{command_of}
+use Rattle.pf_words.specs.Grammar.{command_of}
+use Rattle.pf_cmd.specs.Words.{command_for, command_in}
 use Rattle.pf_cmd.specs.Input.{files_in}
 use Rattle.pf_cmd.specs.Causes.{is_unread, is_missing}
 use Rattle.pf_cmd.specs.Commands.{Command, Input as Works, input_in}
 use Rattle.pf_cmd.specs.Ends.{StopsReading, Stops}
-use Rattle.pf_cmd.specs.Runs.{words_text, IsSaid, IsStatus, Due, refused, done, stopped, Runs, IsPerformed, IsRefusal, IsUnread, IsMissed, IsUnfinished, unsaid, unwritten, AllowsRefusal, IsFaultless}
+use Rattle.pf_cmd.specs.Runs.{words_text, IsSaid, IsStatus, Due, refused, forgotten, done, stopped, Runs, IsPerformed, IsRefusal, IsUnread, IsMissed, IsUnfinished, unsaid, unwritten, AllowsRefusal, IsFaultless}
 
 some-same : (a b : Command) → (let x : Option Command = Some a in x ≡ Some b) → a ≡ b
 some-same a b e = cc
 
 none-some : {A : Type 0} (a : Command) (o : Option Command) → o ≡ None → o ≡ Some a → A
 none-some a o n s = absurd (let k = sym n ∙ s in cc)
+
+-- words that are in no form ask for no command
+unasked : (words : List (List ℕ)) → command_of words ≡ None → command_in words ≡ None
+unasked words e = ap (option_map command_for) e
 
 err-same : {A : Type 0} (r : Result A Stop) (a b : Stop) → r ≡ Err a → r ≡ Err b → a ≡ b
 err-same r a b p q = (let k = sym p ∙ q in cc)
@@ -109,6 +114,7 @@ module _ (words : List (List ℕ)) (old new : Seen) (silent heard : Heard) (r : 
 
   done-of : (status : ℕ) (text : List ℕ) → Due words old new status text → IsSaid status text silent heard r → Tells old.told → r ≡ 0 → IsPerformed words old new silent heard
   done-of status text (refused none read quiet s x) says t e = absurd (let k = said-at status text says (λ f. omega arith) in omega arith)
+  done-of status text (forgotten read quiet s x) says t e = absurd (let k = said-at status text says (λ f. omega arith) in omega arith)
   done-of status text (done command asked finished s) says t e = record { command = command; asked = asked; report = text; done = finished.done t; said = said-whole status text says (λ f. omega arith) }
   done-of status text (stopped command asked stop stops s x) says t e = absurd ((status-kinds stop).0 (sym s ∙ (sym (said-at status text says (λ f. omega arith)) ∙ e)))
 
@@ -117,21 +123,23 @@ module _ (words : List (List ℕ)) (old new : Seen) (silent heard : Heard) (r : 
 
   words_only-of : (status : ℕ) (text : List ℕ) → Due words old new status text → IsSaid status text silent heard r → r ≡ 2 → command_of words ≡ None
   words_only-of status text (refused none read quiet s x) says e = none
+  words_only-of status text (forgotten read quiet s x) says e = absurd (let k = said-at status text says (λ f. omega arith) in omega arith)
   words_only-of status text (done command asked finished s) says e = absurd (let k = said-at status text says (λ f. omega arith) in omega arith)
   words_only-of status text (stopped command asked stop stops s x) says e = absurd ((status-kinds stop).1 (sym s ∙ (sym (said-at status text says (λ f. omega arith)) ∙ e)))
 
   pub run-words_only : Runs words old new silent heard r → r ≡ 2 → command_of words ≡ None
   run-words_only h e = words_only-of h.status h.text h.due h.said e
 
-  words_always-of : (status : ℕ) (text : List ℕ) → Due words old new status text → IsSaid status text silent heard r → command_of words ≡ None → IsStatus 2 silent heard r
-  words_always-of status text (refused none read quiet s x) says e = said-status status 2 text says s
-  words_always-of status text (done command asked finished s) says e = none-some command (command_of words) e asked
-  words_always-of status text (stopped command asked stop stops s x) says e = none-some command (command_of words) e asked
+  words_always-of : (status : ℕ) (text : List ℕ) → Due words old new status text → IsSaid status text silent heard r → command_of words ≡ None → IsStatus 2 silent heard r ⊎ (r ≡ 5)
+  words_always-of status text (refused none read quiet s x) says e = inl (said-status status 2 text says s)
+  words_always-of status text (forgotten read quiet s x) says e = elim says [ inl a ↦ inr (a.0 ∙ s) | inr b ↦ inl (inr (b.0, b.1)) ]
+  words_always-of status text (done command asked finished s) says e = none-some command (command_in words) (unasked words e) asked
+  words_always-of status text (stopped command asked stop stops s x) says e = none-some command (command_in words) (unasked words e) asked
 
-  pub run-words_always : Runs words old new silent heard r → command_of words ≡ None → IsStatus 2 silent heard r
+  pub run-words_always : Runs words old new silent heard r → command_of words ≡ None → IsStatus 2 silent heard r ⊎ (r ≡ 5)
   run-words_always h e = words_always-of h.status h.text h.due h.said e
 
-  unread-stop : (command : Command) → command_of words ≡ Some command → (stop : Stop) → StopsReading command old new stop → status_of stop ≡ 3 → heard.told ≡ extended silent.told (line_of command.stems stop) → IsUnread words old new silent heard
+  unread-stop : (command : Command) → command_in words ≡ Some command → (stop : Stop) → StopsReading command old new stop → status_of stop ≡ 3 → heard.told ≡ extended silent.told (line_of command.stems stop) → IsUnread words old new silent heard
   unread-stop command asked (Device (Unread place)) h e said = record { command = command; place = place; fault = h.explained.cause.1; reads = h.explained.cause.0; reached = h.explained.cause.2; line = record { asked = asked; said = said } }
   unread-stop command asked (Device (Unwritten place)) h e said = absurd (omega arith)
   unread-stop command asked (Device Memory) h e said = absurd (omega arith)
@@ -146,6 +154,7 @@ module _ (words : List (List ℕ)) (old new : Seen) (silent heard : Heard) (r : 
 
   unread-of : (status : ℕ) (text : List ℕ) → Due words old new status text → IsSaid status text silent heard r → r ≡ 3 → IsUnread words old new silent heard
   unread-of status text (refused none read quiet s x) says e = absurd (let k = said-at status text says (λ f. omega arith) in omega arith)
+  unread-of status text (forgotten read quiet s x) says e = absurd (let k = said-at status text says (λ f. omega arith) in omega arith)
   unread-of status text (done command asked finished s) says e = absurd (let k = said-at status text says (λ f. omega arith) in omega arith)
   unread-of status text (stopped command asked stop stops s x) says e =
       let three : status_of stop ≡ 3 = sym s ∙ (sym (said-at status text says (λ f. omega arith)) ∙ e) in
@@ -157,7 +166,7 @@ module _ (words : List (List ℕ)) (old new : Seen) (silent heard : Heard) (r : 
   pub run-unread : Runs words old new silent heard r → r ≡ 3 → IsUnread words old new silent heard
   run-unread h e = unread-of h.status h.text h.due h.said e
 
-  missed-stop : (command : Command) → command_of words ≡ Some command → (stop : Stop) → StopsReading command old new stop → status_of stop ≡ 7 → heard.told ≡ extended silent.told (line_of command.stems stop) → IsMissed words old new silent heard
+  missed-stop : (command : Command) → command_in words ≡ Some command → (stop : Stop) → StopsReading command old new stop → status_of stop ≡ 7 → heard.told ≡ extended silent.told (line_of command.stems stop) → IsMissed words old new silent heard
   missed-stop command asked (Device (Missing place)) h e said = record { command = command; place = place; miss = h.explained.cause.1; reads = h.explained.cause.0; line = record { asked = asked; said = said } }
   missed-stop command asked (Device (Unread place)) h e said = absurd (omega arith)
   missed-stop command asked (Device (Unwritten place)) h e said = absurd (omega arith)
@@ -168,6 +177,7 @@ module _ (words : List (List ℕ)) (old new : Seen) (silent heard : Heard) (r : 
 
   missing-of : (status : ℕ) (text : List ℕ) → Due words old new status text → IsSaid status text silent heard r → r ≡ 7 → IsMissed words old new silent heard
   missing-of status text (refused none read quiet s x) says e = absurd (let k = said-at status text says (λ f. omega arith) in omega arith)
+  missing-of status text (forgotten read quiet s x) says e = absurd (let k = said-at status text says (λ f. omega arith) in omega arith)
   missing-of status text (done command asked finished s) says e = absurd (let k = said-at status text says (λ f. omega arith) in omega arith)
   missing-of status text (stopped command asked stop stops s x) says e =
       let seven : status_of stop ≡ 7 = sym s ∙ (sym (said-at status text says (λ f. omega arith)) ∙ e) in
@@ -181,6 +191,7 @@ module _ (words : List (List ℕ)) (old new : Seen) (silent heard : Heard) (r : 
 
   unwritten-of : (status : ℕ) (text : List ℕ) → Due words old new status text → IsSaid status text silent heard r → r ≡ 4 → Rose old.write_faults new.write_faults ⊎ Rose silent.faults heard.faults
   unwritten-of status text (refused none read quiet s x) says e = elim says [ inl a ↦ absurd (let p = a.0 in omega arith) | inr b ↦ inr b.1 ]
+  unwritten-of status text (forgotten read quiet s x) says e = elim says [ inl a ↦ absurd (let p = a.0 in omega arith) | inr b ↦ inr b.1 ]
   unwritten-of status text (done command asked finished s) says e = elim says [ inl a ↦ absurd (let p = a.0 in omega arith) | inr b ↦ inr b.1 ]
   unwritten-of status text (stopped command asked stop stops s x) says e = elim says [
     | inl a ↦ elim stops [ inl w ↦ inl w.fault | inr h ↦ absurd (reading-not-four command old new stop h (sym s ∙ (sym a.0 ∙ e))) ]
@@ -192,6 +203,7 @@ module _ (words : List (List ℕ)) (old new : Seen) (silent heard : Heard) (r : 
 
   refused-of : (status : ℕ) (text : List ℕ) → Due words old new status text → IsSaid status text silent heard r → Tells old.told → (r ≡ 1) ⊎ ((r ≡ 6) ⊎ (r ≡ 7)) → IsRefusal words old silent heard r
   refused-of status text (refused none read quiet s x) says t e = let k = said-at status text says (not-four r e) in none-of r (λ y. omega arith) (λ y. omega arith) (λ y. omega arith) e
+  refused-of status text (forgotten read quiet s x) says t e = let k = said-at status text says (not-four r e) in none-of r (λ y. omega arith) (λ y. omega arith) (λ y. omega arith) e
   refused-of status text (done command asked finished s) says t e = let k = said-at status text says (not-four r e) in none-of r (λ y. omega arith) (λ y. omega arith) (λ y. omega arith) e
   refused-of status text (stopped command asked stop stops s x) says t e =
       let same : r ≡ status_of stop = said-at status text says (not-four r e) ∙ s in
@@ -211,6 +223,7 @@ module _ (words : List (List ℕ)) (old new : Seen) (silent heard : Heard) (r : 
 
   unfinished-of : (status : ℕ) (text : List ℕ) → Due words old new status text → IsSaid status text silent heard r → Tells old.told → r ≡ 4 → IsUnfinished words old new silent heard
   unfinished-of status text (refused none read quiet s x) says t e = elim says [ inl a ↦ absurd (let p = a.0 in omega arith) | inr b ↦ unsaid status text (refused none read quiet s x) b.1 b.2 ]
+  unfinished-of status text (forgotten read quiet s x) says t e = elim says [ inl a ↦ absurd (let p = a.0 in omega arith) | inr b ↦ unsaid status text (forgotten read quiet s x) b.1 b.2 ]
   unfinished-of status text (done command asked finished s) says t e = elim says [ inl a ↦ absurd (let p = a.0 in omega arith) | inr b ↦ unsaid status text (done command asked finished s) b.1 b.2 ]
   unfinished-of status text (stopped command asked stop stops s x) says t e = elim says [
     | inl a ↦ elim stops [
@@ -223,8 +236,9 @@ module _ (words : List (List ℕ)) (old new : Seen) (silent heard : Heard) (r : 
   pub run-unfinished : Runs words old new silent heard r → Tells old.told → r ≡ 4 → IsUnfinished words old new silent heard
   run-unfinished h t e = unfinished-of h.status h.text h.due h.said t e
 
-  refused_always-of : (status : ℕ) (text : List ℕ) → Due words old new status text → IsSaid status text silent heard r → (command : Command) (stop : Stop) → Tells old.told → command_of words ≡ Some command → input_in command (files_in old command.stems) ≡ Err stop → AllowsRefusal old new silent heard → (r ≡ status_of stop) ⊎ (r ≡ 5)
-  refused_always-of status text (refused none read quiet s x) says command stop t asked is allows = none-some command (command_of words) none asked
+  refused_always-of : (status : ℕ) (text : List ℕ) → Due words old new status text → IsSaid status text silent heard r → (command : Command) (stop : Stop) → Tells old.told → command_in words ≡ Some command → input_in command (files_in old command.stems) ≡ Err stop → AllowsRefusal old new silent heard → (r ≡ status_of stop) ⊎ (r ≡ 5)
+  refused_always-of status text (refused none read quiet s x) says command stop t asked is allows = none-some command (command_in words) (unasked words none) asked
+  refused_always-of status text (forgotten read quiet s x) says command stop t asked is allows = elim says [ inl a ↦ inr (a.0 ∙ s) | inr b ↦ absurd (allows.sink b.1) ]
   refused_always-of status text (done other asked' finished s) says command stop t asked is allows =
       let same : other ≡ command = some-same other command (sym asked' ∙ asked) in
       let given = (finished.done t).is_given in
@@ -243,11 +257,12 @@ module _ (words : List (List ℕ)) (old new : Seen) (silent heard : Heard) (r : 
         | inr b ↦ absurd (allows.sink b.1)
       ]
 
-  pub run-refused_always : Runs words old new silent heard r → (command : Command) (stop : Stop) → Tells old.told → command_of words ≡ Some command → input_in command (files_in old command.stems) ≡ Err stop → AllowsRefusal old new silent heard → (r ≡ status_of stop) ⊎ (r ≡ 5)
+  pub run-refused_always : Runs words old new silent heard r → (command : Command) (stop : Stop) → Tells old.told → command_in words ≡ Some command → input_in command (files_in old command.stems) ≡ Err stop → AllowsRefusal old new silent heard → (r ≡ status_of stop) ⊎ (r ≡ 5)
   run-refused_always h command stop t asked is allows = refused_always-of h.status h.text h.due h.said command stop t asked is allows
 
-  done_always-of : (status : ℕ) (text : List ℕ) → Due words old new status text → IsSaid status text silent heard r → (command : Command) (input : Works) → Tells old.told → command_of words ≡ Some command → input_in command (files_in old command.stems) ≡ Ok input → IsFaultless old new silent heard → (r ≡ 0) ⊎ (r ≡ 5)
-  done_always-of status text (refused none read quiet s x) says command input t asked is safe = none-some command (command_of words) none asked
+  done_always-of : (status : ℕ) (text : List ℕ) → Due words old new status text → IsSaid status text silent heard r → (command : Command) (input : Works) → Tells old.told → command_in words ≡ Some command → input_in command (files_in old command.stems) ≡ Ok input → IsFaultless old new silent heard → (r ≡ 0) ⊎ (r ≡ 5)
+  done_always-of status text (refused none read quiet s x) says command input t asked is safe = none-some command (command_in words) (unasked words none) asked
+  done_always-of status text (forgotten read quiet s x) says command input t asked is safe = elim says [ inl a ↦ inr (a.0 ∙ s) | inr b ↦ absurd (safe.sink b.1) ]
   done_always-of status text (done other asked' finished s) says command input t asked is safe = elim says [ inl a ↦ inl (a.0 ∙ s) | inr b ↦ absurd (safe.sink b.1) ]
   done_always-of status text (stopped other asked' stop stops s x) says command input t asked is safe =
       let same : other ≡ command = some-same other command (sym asked' ∙ asked) in
@@ -263,11 +278,12 @@ module _ (words : List (List ℕ)) (old new : Seen) (silent heard : Heard) (r : 
         | inr b ↦ absurd (safe.sink b.1)
       ]
 
-  pub run-done_always : Runs words old new silent heard r → (command : Command) (input : Works) → Tells old.told → command_of words ≡ Some command → input_in command (files_in old command.stems) ≡ Ok input → IsFaultless old new silent heard → (r ≡ 0) ⊎ (r ≡ 5)
+  pub run-done_always : Runs words old new silent heard r → (command : Command) (input : Works) → Tells old.told → command_in words ≡ Some command → input_in command (files_in old command.stems) ≡ Ok input → IsFaultless old new silent heard → (r ≡ 0) ⊎ (r ≡ 5)
   run-done_always h command input t asked is safe = done_always-of h.status h.text h.due h.said command input t asked is safe
 
   unread_always-of : (status : ℕ) (text : List ℕ) → Due words old new status text → IsSaid status text silent heard r → old.read_faults < new.read_faults → IsStatus 3 silent heard r
   unread_always-of status text (refused none read quiet s x) says l = absurd (let k : new.read_faults ≡ old.read_faults = quiet.read_faults in omega arith)
+  unread_always-of status text (forgotten read quiet s x) says l = absurd (let k : new.read_faults ≡ old.read_faults = quiet.read_faults in omega arith)
   unread_always-of status text (done command asked finished s) says l = absurd (let k : new.read_faults ≡ old.read_faults = finished.quiet.read_faults in omega arith)
   unread_always-of status text (stopped command asked stop stops s x) says l = elim stops [
     | inl w ↦ absurd (let k : new.read_faults ≡ old.read_faults = w.quiet.read_faults in omega arith)
@@ -279,6 +295,7 @@ module _ (words : List (List ℕ)) (old new : Seen) (silent heard : Heard) (r : 
 
   missing_always-of : (status : ℕ) (text : List ℕ) → Due words old new status text → IsSaid status text silent heard r → old.misses < new.misses → IsStatus 7 silent heard r
   missing_always-of status text (refused none read quiet s x) says l = absurd (let k : new.misses ≡ old.misses = quiet.misses in omega arith)
+  missing_always-of status text (forgotten read quiet s x) says l = absurd (let k : new.misses ≡ old.misses = quiet.misses in omega arith)
   missing_always-of status text (done command asked finished s) says l = absurd (let k : new.misses ≡ old.misses = finished.quiet.misses in omega arith)
   missing_always-of status text (stopped command asked stop stops s x) says l = elim stops [
     | inl w ↦ absurd (let k : new.misses ≡ old.misses = w.quiet.misses in omega arith)
@@ -290,6 +307,7 @@ module _ (words : List (List ℕ)) (old new : Seen) (silent heard : Heard) (r : 
 
   unwritten_always-of : (status : ℕ) (text : List ℕ) → Due words old new status text → IsSaid status text silent heard r → old.write_faults < new.write_faults → r ≡ 4
   unwritten_always-of status text (refused none read quiet s x) says l = absurd (let k : new.write_faults ≡ old.write_faults = read.write_faults in omega arith)
+  unwritten_always-of status text (forgotten read quiet s x) says l = absurd (let k : new.write_faults ≡ old.write_faults = read.write_faults in omega arith)
   unwritten_always-of status text (done command asked finished s) says l = absurd (let k : new.write_faults ≡ old.write_faults = finished.write_faults in omega arith)
   unwritten_always-of status text (stopped command asked stop stops s x) says l = elim stops [
     | inl w ↦ elim says [ inl a ↦ a.0 ∙ (s ∙ ap status_of w.named) | inr b ↦ b.0 ]
@@ -304,6 +322,7 @@ module _ (words : List (List ℕ)) (old new : Seen) (silent heard : Heard) (r : 
 
   as_before-of : (status : ℕ) (text : List ℕ) → Due words old new status text → IsSaid status text silent heard r → r ≢ 0 → r ≢ 4 → IsAsBefore old.told new.told
   as_before-of status text (refused none read quiet s x) says z f = read.files
+  as_before-of status text (forgotten read quiet s x) says z f = read.files
   as_before-of status text (done command asked finished s) says z f = absurd (z (said-at status text says f ∙ s))
   as_before-of status text (stopped command asked stop stops s x) says z f = elim stops [
     | inl w ↦ absurd (f (said-at status text says f ∙ (s ∙ ap status_of w.named)))

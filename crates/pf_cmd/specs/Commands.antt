@@ -1,5 +1,6 @@
 -- The commands: what each reads and writes, and what it may give of what it reads.
 use Rattle.std.specs.Prelude.{◌≡◌, ◌≢◌, ◌≤◌, ◌+◌, ◌*◌, ◌-◌, ℕ, List, [], ◌∷◌, ◌++◌, min, codes, decimal, if◌then◌else◌, length, Result, Ok, Err, Option, Some, None}
+use Rattle.std.specs.Fmt.{signed_decimal}
 use Rattle.std.specs.Option.{option_map}
 use Rattle.pf_model.specs.declared.Entry.{Entry}
 use Rattle.pf_model.specs.declared.FirstRefusal.{FirstRefusal}
@@ -7,9 +8,11 @@ use Rattle.pf_model.specs.Mesh.{Undivided}
 use Rattle.pf_model.specs.Replay.{replayed, first_refusal, IsLegal}
 use Rattle.pf_model.specs.Limits.{most_names}
 use Rattle.pf_model.specs.Tables.{with_tables_of}
+use Rattle.pf_model.specs.Sums.{area2_of, euler_of}
 use Rattle.pf_model.specs.Texts.{mesh_node_text, mesh_ele_text, mesh_lines, lines_text, journal_text, rest_text, replay_report, check_report}
 use Rattle.pf_model.specs.Wishes.{rest_of}
 use Rattle.pf_assemble.specs.ChunkList.{chunk_list_of}
+use Rattle.pf_grid.specs.Mesh.{grid_mesh}
 use Rattle.pf_adapt.specs.Adapted.{is_quiet, IsAdapted}
 use Rattle.table_text.specs.Part.{part_text_of}
 use Rattle.trace_text.specs.Trace.{Told}
@@ -32,19 +35,21 @@ pub record Command : Type 0 where
 
 -- the files that a command reads, in order
 abbrev pub reads_of : Task → List Place
-reads_of (act.Adapt ops) = Node ∷ Ele ∷ Part ∷ Size ∷ []
+reads_of (act.Adapt workers ops turns) = Node ∷ Ele ∷ Part ∷ Size ∷ []
 reads_of act.Replay = Node ∷ Ele ∷ Part ∷ Size ∷ Journal ∷ []
 reads_of act.Check = Node ∷ Ele ∷ Part ∷ []
 reads_of act.Chunks = Node ∷ Ele ∷ Part ∷ []
 reads_of act.Trace = Node ∷ Ele ∷ Part ∷ Size ∷ Trace ∷ []
+reads_of (act.Demo cells) = []
 
 -- the files that it writes, in order
 abbrev pub writes_of : Task → List Place
-writes_of (act.Adapt ops) = OutNode ∷ OutEle ∷ OutPart ∷ OutJournal ∷ OutRest ∷ []
+writes_of (act.Adapt workers ops turns) = OutNode ∷ OutEle ∷ OutPart ∷ OutJournal ∷ OutRest ∷ []
 writes_of act.Replay = OutNode ∷ OutEle ∷ OutPart ∷ []
 writes_of act.Check = []
 writes_of act.Chunks = []
 writes_of act.Trace = []
+writes_of (act.Demo cells) = []
 
 -- the name is that of none of these files
 abbrev pub AreUnnamed : Stems → List Place → List ℕ → Type 0
@@ -58,6 +63,15 @@ IsUnnamed command name = AreUnnamed command.stems (writes_of command.task) name
 -- the scale is from 1 to 1,048,576
 abbrev pub IsScaled : Command → Type 0
 IsScaled command = (1 ≤ command.scale) × (command.scale ≤ 1048576)
+
+-- the numbers of a task are in range: there are 1 to 64 workers, and a grid has 1 to 64 cells a side
+abbrev pub IsBounded : Task → Type 0
+IsBounded (act.Adapt workers ops turns) = (1 ≤ workers) × (workers ≤ 64)
+IsBounded act.Replay = Unit {0}
+IsBounded act.Check = Unit {0}
+IsBounded act.Chunks = Unit {0}
+IsBounded act.Trace = Unit {0}
+IsBounded (act.Demo cells) = (1 ≤ cells) × (cells ≤ 64)
 
 -- what a replay works on: a mesh, the number of the first node in its files, and the journal
 pub record Journalled : Type 0 where
@@ -131,10 +145,12 @@ pub data Input : Type 0 where
   to_divide : Undivided → Input
   -- a mesh and the trace that is run on it
   to_trace : Traced → Input
+  -- how many cells a side the grid has that is adapted
+  to_show : ℕ → Input
 
 -- what a command works on, by its files as they are, or their first refusal in the order of reading
 abbrev pub task_input : Task → ℕ → Held → Result Input Stop
-task_input (act.Adapt ops) scale files = do
+task_input (act.Adapt workers ops turns) scale files = do
   input ← budgeted_in ops scale files
   Ok (to_adapt input)
 task_input act.Replay scale files = do
@@ -149,6 +165,7 @@ task_input act.Chunks scale files = do
 task_input act.Trace scale files = do
   input ← traced_in scale files
   Ok (to_trace input)
+task_input (act.Demo cells) scale files = Ok (to_show cells)
 
 abbrev pub input_in : Command → Held → Result Input Stop
 input_in command files = task_input command.task command.scale files
@@ -210,13 +227,28 @@ chunks_given mesh = record { writes = []; report = chunk_list_of mesh }
 abbrev pub trace_given : Traced → Given
 trace_given input = record { writes = []; report = answer_text input.mesh input.said }
 
+-- the report of a grid with so many cells a side: its twice area and its Euler number, which no adaptation changes
+abbrev pub demo_report : ℕ → List ℕ
+demo_report cells =
+    lines_text (
+    (codes "grid" ∷ decimal cells ∷ [])
+    ∷ (codes "area2" ∷ signed_decimal (area2_of (grid_mesh cells)) ∷ [])
+    ∷ (codes "euler" ∷ signed_decimal (euler_of (grid_mesh cells)) ∷ [])
+    ∷ []
+    )
+
+-- what the adaptation of a grid gives
+abbrev pub demo_given : ℕ → Given
+demo_given cells = record { writes = []; report = demo_report cells }
+
 -- What a command may give of what it works on. Of an adaptation there is one for each journal that is legal from the mesh, no
 -- longer than the budget, and at whose end no line of the rest list passes or the budget is spent. Of each other command
 -- there is one.
 abbrev pub MayGive : Task → Stems → Input → Given → Type 0
-MayGive (act.Adapt ops) stems (to_adapt input) given = (journal : List Entry) × IsAdapted input.mesh input.budget journal × (given ≡ adapt_given stems input journal)
+MayGive (act.Adapt workers ops turns) stems (to_adapt input) given = (journal : List Entry) × IsAdapted input.mesh input.budget journal × (given ≡ adapt_given stems input journal)
 MayGive act.Replay stems (to_replay input) given = IsLegal input.mesh input.entries × (given ≡ replay_given stems input)
 MayGive act.Check stems (to_check parted) given = given ≡ check_given parted
 MayGive act.Chunks stems (to_divide mesh) given = given ≡ chunks_given mesh
 MayGive act.Trace stems (to_trace input) given = given ≡ trace_given input
+MayGive (act.Demo cells) stems (to_show side) given = given ≡ demo_given side
 MayGive other stems input given = ⊥

@@ -8,8 +8,9 @@ use Rattle.pf_say.specs.declared.place.Place.{Place}
 use Rattle.pf_say.specs.declared.stop.Trouble.TheVariants.{Missing, Unread, Unwritten}
 use Rattle.pf_say.specs.declared.stop.Stop.{Stop}
 use Rattle.pf_say.specs.declared.stop.Stop.TheVariants.{Device}
-use Rattle.pf_say.specs.Stop.{status_of, line_of}
-use Rattle.pf_cmd.specs.Words.{command_of}
+use Rattle.pf_say.specs.Stop.{status_of, line_of, memory_text}
+use Rattle.pf_words.specs.Grammar.{command_of}
+use Rattle.pf_cmd.specs.Words.{command_in}
 use Rattle.pf_cmd.specs.Input.{files_in, without}
 use Rattle.pf_cmd.specs.Causes.{IsOnlyRead, IsQuiet, IsAmong}
 use Rattle.pf_cmd.specs.Commands.{Command, input_in, reads_of}
@@ -27,12 +28,13 @@ IsSaid status text silent heard result = ((result ≡ status) × (heard.told ≡
 abbrev pub IsStatus : ℕ → Heard → Heard → ℕ → Type 0
 IsStatus status silent heard result = (result ≡ status) ⊎ ((result ≡ 4) × Rose silent.faults heard.faults)
 
--- Which text is due, with which status. The words are in no command's form, and nothing is read. A command is done, and its
--- report is due. Or it stops, and the line of the reason is due.
+-- Which text is due, with which status. The words are in no command's form, or memory ran out before they were read, and
+-- nothing else is read. A command is done, and its report is due. Or it stops, and the line of the reason is due.
 pub data Due (words : List (List ℕ)) (old new : Seen) (status : ℕ) (text : List ℕ) : Type 0 where
   refused : command_of words ≡ None → IsOnlyRead old new → IsQuiet old new → status ≡ 2 → text ≡ words_text → Due words old new status text
-  done : (command : Command) → command_of words ≡ Some command → Finishes command old new text → status ≡ 0 → Due words old new status text
-  stopped : (command : Command) → command_of words ≡ Some command → (stop : Stop) → Stops command old new stop → status ≡ status_of stop → text ≡ line_of command.stems stop → Due words old new status text
+  forgotten : IsOnlyRead old new → IsQuiet old new → status ≡ 5 → text ≡ memory_text → Due words old new status text
+  done : (command : Command) → command_in words ≡ Some command → Finishes command old new text → status ≡ 0 → Due words old new status text
+  stopped : (command : Command) → command_in words ≡ Some command → (stop : Stop) → Stops command old new stop → status ≡ status_of stop → text ≡ line_of command.stems stop → Due words old new status text
 
 -- a text was due, with a status, and it was said
 pub record Runs (words : List (List ℕ)) (old new : Seen) (silent heard : Heard) (result : ℕ) : Type 0 where
@@ -44,14 +46,14 @@ pub record Runs (words : List (List ℕ)) (old new : Seen) (silent heard : Heard
 -- at status 0 a command was done: its files are written, all others are as before, and its report was said
 pub record IsPerformed (words : List (List ℕ)) (old new : Seen) (silent heard : Heard) : Type 0 where
   pub command : Command
-  pub asked : command_of words ≡ Some command
+  pub asked : command_in words ≡ Some command
   pub report : List ℕ
   pub done : IsDone command old new report
   pub said : heard.told ≡ extended silent.told report
 
 -- the line of this reason was said
 pub record IsTold (words : List (List ℕ)) (silent heard : Heard) (command : Command) (stop : Stop) : Type 0 where
-  pub asked : command_of words ≡ Some command
+  pub asked : command_in words ≡ Some command
   pub said : heard.told ≡ extended silent.told (line_of command.stems stop)
 
 -- at 1, 6 and 7: the files, as they are when the run begins, have this refusal first, with this status, and its line was said

@@ -1,27 +1,21 @@
--- The code's commands, options and readings, as what they say.
+-- The code's commands and readings, as what they say.
 use Rattle.std.specs.Prelude.{◌≡◌, ℕ, List, length, Ok, Option}
 use Rattle.pf_model.specs.Replay.{replayed, IsLegal}
 use Rattle.pf_model.specs.Wishes.{rest_of}
 use Rattle.pf_adapt.specs.Adapted.{IsAdapted}
 use Rattle.pf_say.specs.Shown.{stems_of}
-use Rattle.pf_cmd.specs.declared.words.Choice.{Choice as CodedChoice}
 use Rattle.pf_cmd.specs.declared.words.Command.{Command as CodedCommand}
 use Rattle.pf_cmd.specs.declared.input.Parted.{Parted as CodedParted}
 use Rattle.pf_cmd.specs.declared.input.Budgeted.{Budgeted as CodedBudgeted}
 use Rattle.pf_cmd.specs.declared.adapt.Refined.{Refined as CodedRefined}
 use Rattle.pf_cmd.specs.declared.replay.Replayed.{Replayed as CodedReplayed}
 use Rattle.pf_cmd.specs.Input.{Held, Parted}
-use Rattle.pf_cmd.specs.Words.{Choice}
 use Rattle.pf_cmd.specs.Commands.{Command, Budgeted, budgeted_in, Journalled, journalled_in, Traced, traced_in}
 use Rattle.trace_text.specs.Verdicts.{answer_text}
 
 -- what a command asks for
 abbrev pub shown : CodedCommand → Command
 shown command = record { task = command.task; stems = stems_of command.stems; scale = command.scale }
-
--- an option of a command
-abbrev pub choice_of : CodedChoice → Choice
-choice_of choice = record { name = choice.name.now; least = choice.least; most = choice.most; otherwise = choice.otherwise }
 
 -- a mesh as it is listed with its chunks, as what it says
 abbrev pub parted_of : CodedParted → Parted

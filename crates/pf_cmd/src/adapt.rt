@@ -16,12 +16,14 @@ ghost use Rattle.pf_cmd.specs.Shown.{IsRefined};
 use crate::input::{Budgeted, read_budgeted};
 use crate::output::{Output, out_file, put_mesh};
 use pf_adapt::{Adapted, adapt, is_quiet};
+use pf_driver::Gate;
 use pf_journal::journal_text;
 use pf_mesh::RestLine;
 use pf_say::{Place, Stems, Stop, put_line, rest_text};
 use pf_shelf::Shelf;
 use pf_tables::part_text;
 use std::alloc::{AllocError, Global};
+use std::thread::Threads;
 use tri_files::{ele_text, node_text};
 
 /// A mesh that was adapted, and the number of the first node in its files.
@@ -31,29 +33,42 @@ pub(crate) struct Refined {
     adapted: Adapted,
 }
 
+/// How a mesh is adapted: by so many workers, each taking at most so many turns, and by at most so many operations, where
+/// that many are said.
+#[derive(Clone, Copy, Debug)]
+pub(crate) struct Work {
+    pub(crate) workers: u32,
+    pub(crate) ops: Option<u32>,
+    pub(crate) turns: u32,
+}
+
 /// The mesh of the files, adapted.
-pub(crate) fn refine<S: Shelf>(
+pub(crate) fn refine<R: Threads + Sync, S: Shelf, G: Gate + Sync>(
+    rt: &R,
     alloc: Global,
     shelf: &mut S,
     stems: Stems<'_>,
     scale: u32,
-    ops: Option<u32>,
+    work: Work,
+    gate: &G,
 ) -> Result<Refined, Stop>
     requires scale_low { 1 ≤ scale }
     requires scale_high { scale ≤ 1048576 }
+    requires some_worker { 1 ≤ work.workers }
+    requires few_workers { work.workers ≤ 64 }
     ensures refined { Tells (S.seen shelf.old).told →
-        IfOk result (IsRefined ops scale (files_in (S.seen shelf.old) (stems_of stems.entry))) }
+        IfOk result (IsRefined work.ops scale (files_in (S.seen shelf.old) (stems_of stems.entry))) }
     ensures base { IfOk result (λ after. after.base ≤ 1) }
     ensures rest { IfOk result (λ after. after.adapted.rest.items ≡ rest_of after.adapted.mesh.mesh) }
     ensures tickets { IfOk result (λ after. HasTickets after.adapted.journal.items) }
     ensures stop { IfErr result (Explains
         (Place.Node ∷ Place.Ele ∷ Place.Part ∷ Place.Size ∷ []) (S.seen shelf.old) (S.seen shelf.new)
-        (stems_of stems.entry) (budgeted_in ops scale)) }
+        (stems_of stems.entry) (budgeted_in work.ops scale)) }
     ensures quiet { IfOk result (λ _. IsQuiet (S.seen shelf.old) (S.seen shelf.new)) }
     ensures only_read { IsOnlyRead (S.seen shelf.old) (S.seen shelf.new) }
 {
-    let Budgeted { base, mesh, budget } = read_budgeted(alloc, shelf, stems, scale, ops)?;
-    let adapted = adapt(alloc, mesh, budget)?;
+    let Budgeted { base, mesh, budget } = read_budgeted(alloc, shelf, stems, scale, work.ops)?;
+    let adapted = adapt(rt, alloc, mesh, budget, work.workers, work.turns, gate)?;
     Ok(Refined { base, adapted })
 }
 

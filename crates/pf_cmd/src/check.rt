@@ -24,8 +24,8 @@ pub(crate) fn check_text(alloc: Global, mesh: &Mesh, chunks: u16) -> Result<Vec<
     Ok(text)
 }
 
-// Puts the Euler number.
-fn put_euler(alloc: Global, text: &mut Vec<u8>, mesh: &Mesh) -> Result<(), Stop>
+/// Puts the Euler number.
+pub(crate) fn put_euler(alloc: Global, text: &mut Vec<u8>, mesh: &Mesh) -> Result<(), Stop>
     ensures memory { IfErr result (λ stop. stop ≡ memory_stop) }
     ensures text { OnOk result (text.new.items ≡ text.old.items ++ line_text (codes "euler" ∷ signed_decimal (euler_of mesh.now.mesh) ∷ [])) }
 {

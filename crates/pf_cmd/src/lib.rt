@@ -8,6 +8,7 @@
 mod adapt;
 mod check;
 mod chunks;
+mod demo;
 mod fault;
 mod input;
 mod output;

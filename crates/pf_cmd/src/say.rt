@@ -30,6 +30,13 @@ pub(crate) fn say<K: Sink>(out: &mut K, text: &[u8], status: u8) -> u8
     }
 }
 
+/// Says that there is no memory, and gives the status.
+pub(crate) fn say_forgotten<K: Sink>(out: &mut K) -> u8
+    ensures { IsSaid 5 memory_text (K.heard out.old) (K.heard out.new) result }
+{
+    say(out, NO_MEMORY, FORGOTTEN)
+}
+
 /// Says why a run ended before its end, and gives the status. What happened to a device is said without memory; where
 /// there is no memory for another line, that is said.
 pub(crate) fn say_stop<K: Sink>(alloc: Global, out: &mut K, stems: Stems<'_>, stop: Stop) -> u8
@@ -40,7 +47,7 @@ pub(crate) fn say_stop<K: Sink>(alloc: Global, out: &mut K, stems: Stems<'_>, st
         Some(trouble) => say_trouble(out, stems, trouble, stop.status()),
         None => match stop.line(alloc, stems) {
             Ok(line) => say(out, &line, stop.status()),
-            Err(_) => say(out, NO_MEMORY, FORGOTTEN),
+            Err(_) => say_forgotten(out),
         },
     }
 }

@@ -10,6 +10,9 @@ use pf_holder::Holder;
 use pf_order::Order;
 use std::alloc::Global;
 
+// At how many places bisections are counted, for each node of the start list.
+const PLACES: usize = 6;
+
 /// How a drive ended.
 #[derive(Clone, Copy, Debug, PartialEq, Eq)]
 pub enum DriveEnd {
@@ -132,7 +135,10 @@ fn all_turns<H: Holder, G: Gate>(
     ensures spent { IsSpentAt (H.allowance h.new) result }
     ensures visited { OnWent result (HasVisited chunks.now (H.opening h.old) (H.seen_at h.old) (H.gained h.old h.new) (H.entries h.old) (H.entries h.new) start.now (min turns (length start.now))) }
 {
-    let mut order = Order::new(alloc);
+    let places = start.len().saturating_mul(PLACES);
+    let Ok(mut order) = Order::new(alloc, places) else {
+        return Turn::Memory;
+    };
     let count = start_count(start, turns);
     match start_turns(alloc, h, worker, chunks, start, count, gate, &mut order) {
         Turn::Went => later_turns(alloc, h, worker, chunks, count, turns, gate, &mut order),

@@ -2,6 +2,7 @@
 #![tactic(auto)]
 
 mod driving;
+mod escaping;
 mod gate;
 mod looking;
 mod planning;

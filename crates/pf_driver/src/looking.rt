@@ -5,13 +5,13 @@ ghost use Rattle.pf_holder.specs.Facts.{LendsAll};
 ghost use Rattle.pf_wishes.specs.First.{first_wish_of};
 ghost use Rattle.pf_driver.specs.Turns.{TellsLook, IsSeenAs};
 
-use crate::planning::push_star;
+use crate::planning::{aim_at, push_star};
 use pf_core_model::Asked;
 use pf_geom::NoMemory;
 use pf_holder::{Hold, Holder};
-use pf_model::Band;
+use pf_model::{Band, Op};
 use pf_order::Order;
-use pf_rings::Rings;
+use pf_rings::{Rings, Star};
 use pf_wishes::first_wish;
 
 /// What a look at a node found.
@@ -37,19 +37,32 @@ fn wish_shown<R: Rings>(r: &R, bands: &[Band], chunks: &[u16], n: u32) -> Option
     }
 }
 
+// Says which stars the wish of a star changes, where it has one.
+fn aim_wish(star: &Star, wish: Option<Asked>, order: &mut Order) -> Result<(), NoMemory> {
+    let Some(asked) = wish else {
+        return Ok(());
+    };
+    match asked.op {
+        Op::Flip { a, b } => aim_at(asked.op, star, if a == star.node() { b } else { a }, order),
+        Op::Bisect { a, b } => aim_at(asked.op, star, if a == star.node() { b } else { a }, order),
+        Op::Contract { u: _, v } => aim_at(asked.op, star, v, order),
+    }
+}
+
 // Puts what the star that is lent of a node asks for on the lists.
 fn push_shown<R: Rings>(
     r: &R,
     bands: &[Band],
     chunks: &[u16],
     n: u32,
-    wide: bool,
+    wish: Option<Asked>,
     order: &mut Order,
 ) -> Result<(), NoMemory> {
-    match r.ring(n) {
-        Some(ring) => push_star(bands, chunks, ring.star(), wide, order),
-        None => Ok(()),
-    }
+    let Some(ring) = r.ring(n) else {
+        return Ok(());
+    };
+    push_star(bands, chunks, ring.star(), order)?;
+    aim_wish(ring.star(), wish, order)
 }
 
 // What was seen, once the lists have it.
@@ -63,7 +76,7 @@ fn seen(pushed: Result<(), NoMemory>, wish: Option<Asked>) -> Look
 }
 
 /// Looks at a node, and puts on the lists what its star asks for. It holds nothing afterwards.
-pub fn look_at<H: Holder>(h: &mut H, chunks: &[u16], n: u32, wide: bool, order: &mut Order) -> Look
+pub fn look_at<H: Holder>(h: &mut H, chunks: &[u16], n: u32, order: &mut Order) -> Look
     requires nothing { (H.pairs h.old ≡ []) × (H.unborn h.old ≡ None) × (H.owed h.old ≡ []) }
     requires lends { LendsAll (H.lent h.old) (H.pairs h.old) }
     ensures same { H.same h.old h.new }
@@ -75,7 +88,7 @@ pub fn look_at<H: Holder>(h: &mut H, chunks: &[u16], n: u32, wide: bool, order: 
     match h.hold(n) {
         Hold::Won => {
             let wish = wish_shown(h, h.bands(), chunks, n);
-            let pushed = push_shown(h, h.bands(), chunks, n, wide, order);
+            let pushed = push_shown(h, h.bands(), chunks, n, wish, order);
             h.note(None);
             h.give_back();
             seen(pushed, wish)

@@ -2,29 +2,32 @@
 ghost use Rattle.std.specs.Prelude.{◌≡◌, ℕ, ◌<◌, All, IfSome, true};
 ghost use Rattle.pf_driver.specs.Plans.{IsPlanBy, IsPlanBelow};
 
+use crate::escaping::escape_planned;
 use pf_core_model::{Answer, Asked};
-use pf_geom::NoMemory;
+use pf_geom::{NoMemory, Point};
 use pf_model::{Band, Op};
-use pf_order::{Kind, Order, Task};
+use pf_order::{EdgeTask, Kind, Order, Place, Task};
 use pf_rings::{Rings, Star, spoke_from, spoke_to};
 use pf_wishes::{EdgeLook, look};
 
 /// What an entry of the work lists asks for.
 #[derive(Clone, Copy, Debug, PartialEq, Eq)]
 pub enum Plan {
-    /// The operation. The apexes are those of the edge, where there are such.
+    /// The operation.
     Try {
         asked: Asked,
-        left: Option<u32>,
-        right: Option<u32>,
     },
-    /// The walk from a long edge goes on.
-    Walk {
-        lo: u32,
-        hi: u32,
+    /// Whether the bisection passes: an escape is looked for then before it is made.
+    Ask {
+        asked: Asked,
+        from: u32,
+        to: u32,
+        place: Place,
     },
-    /// Nothing any more.
-    Drop,
+    /// Nothing at this turn.
+    Rest,
+    /// Memory is wanting.
+    NoRoom,
 }
 
 /// Whether the chunk is one of these.
@@ -41,17 +44,16 @@ pub fn is_mine(chunks: &[u16], chunk: u16) -> bool
 
 // Puts an edge on the lists that its look asks for.
 fn push_seen(seen: EdgeLook, n: u32, x: u32, order: &mut Order) -> Result<(), NoMemory> {
-    let (lo, hi) = (n.min(x), n.max(x));
     if seen.far {
-        order.push_edge(Kind::Far, lo, hi)?;
+        order.push_edge(Kind::Far, n, x)?;
     } else if seen.long {
-        order.push_edge(Kind::Long, lo, hi)?;
+        order.push_edge(Kind::Long, n, x)?;
     }
     if seen.shorter_flip {
-        order.push_edge(Kind::Flip, lo, hi)?;
+        order.push_edge(Kind::Flip, n, x)?;
     }
     if seen.short {
-        order.push_edge(Kind::Short, lo, hi)?;
+        order.push_edge(Kind::Short, n, x)?;
     }
     Ok(())
 }
@@ -62,233 +64,263 @@ fn push_to(
     chunks: &[u16],
     star: &Star,
     x: u32,
-    wide: bool,
     order: &mut Order,
 ) -> Result<(), NoMemory> {
-    if wide {
-        order.push_node(x, false)?;
-    }
     match look(bands, star, x) {
         Some(seen) if is_mine(chunks, seen.chunk) => push_seen(seen, star.node(), x, order),
         _ => Ok(()),
     }
 }
 
-/// Puts the edges of a star on the lists, and where `wide` its neighbours too. Want of memory is its only failure.
+/// Puts the edges of a star on the lists. Want of memory is its only failure.
 pub fn push_star(
     bands: &[Band],
     chunks: &[u16],
     star: &Star,
-    wide: bool,
     order: &mut Order,
 ) -> Result<(), NoMemory> {
     let spokes = star.spokes();
-    for k in 0..spokes.len() {
-        push_to(bands, chunks, star, spokes[k].right, wide, order)?;
-        if spoke_to(spokes, spokes[k].left).is_none() {
-            push_to(bands, chunks, star, spokes[k].left, wide, order)?;
+    for s in spokes {
+        push_to(bands, chunks, star, s.right, order)?;
+        if spoke_to(spokes, s.left).is_none() {
+            push_to(bands, chunks, star, s.left, order)?;
         }
     }
     Ok(())
 }
 
-// The apex left of the edge to `x`.
-fn left_apex(star: &Star, x: u32) -> Option<u32> {
-    match spoke_to(star.spokes(), x) {
-        Some(s) => Some(s.left),
-        None => None,
+// Where the neighbour stands, and the node itself where there is none of that name.
+fn place_of(star: &Star, x: u32) -> Point {
+    if let Some(s) = spoke_to(star.spokes(), x) {
+        return s.right_at;
     }
-}
-
-// The apex right of it.
-fn right_apex(star: &Star, x: u32) -> Option<u32> {
     match spoke_from(star.spokes(), x) {
-        Some(s) => Some(s.right),
-        None => None,
+        Some(s) => s.left_at,
+        None => star.at(),
     }
 }
 
-// The operation on the edge to `to` that the list asks for, where it still does.
-fn op_on(kind: Kind, seen: EdgeLook, from: u32, to: u32) -> Option<Op> {
-    match kind {
-        Kind::Walk => Some(Op::Bisect { a: from, b: to }),
-        Kind::Far | Kind::Long => {
-            if seen.long {
-                Some(Op::Bisect { a: from, b: to })
-            } else {
-                None
-            }
-        }
-        Kind::Flip => {
-            if seen.shorter_flip {
-                Some(Op::Flip { a: from, b: to })
-            } else {
-                None
-            }
-        }
-        Kind::Short => {
-            if seen.short {
-                Some(Op::Contract { u: from, v: to })
-            } else {
-                None
-            }
-        }
+/// Where the edge to `x` is.
+pub fn place_at(star: &Star, x: u32) -> Place {
+    Place {
+        from: star.at(),
+        to: place_of(star, x),
     }
 }
 
-// Whether the operation is a bisection.
-fn is_bisection(op: Op) -> bool {
+// Says that an operation changes the stars of the ends of the edge to `x`, and of the apexes.
+fn aim_across(star: &Star, x: u32, order: &mut Order) -> Result<(), NoMemory> {
+    order.push_near(star.node())?;
+    order.push_near(x)?;
+    if let Some(s) = spoke_to(star.spokes(), x) {
+        order.push_near(s.left)?;
+    }
+    if let Some(s) = spoke_from(star.spokes(), x) {
+        order.push_near(s.right)?;
+    }
+    Ok(())
+}
+
+// Says that an operation changes the stars of all neighbours.
+fn aim_around(star: &Star, order: &mut Order) -> Result<(), NoMemory> {
+    let spokes = star.spokes();
+    for s in spokes {
+        order.push_near(s.right)?;
+        if spoke_to(spokes, s.left).is_none() {
+            order.push_near(s.left)?;
+        }
+    }
+    Ok(())
+}
+
+/// Says which stars an operation on the edge to `x` changes, and where it bisects. A contraction takes the star's node.
+/// Want of memory is its only failure.
+pub fn aim_at(op: Op, star: &Star, x: u32, order: &mut Order) -> Result<(), NoMemory> {
+    order.begin_aim();
     match op {
-        Op::Bisect { a: _, b: _ } => true,
-        Op::Flip { a: _, b: _ } => false,
-        Op::Contract { u: _, v: _ } => false,
+        Op::Flip { .. } => aim_across(star, x, order),
+        Op::Bisect { .. } => {
+            order.set_place(place_at(star, x));
+            aim_across(star, x, order)
+        }
+        Op::Contract { .. } => aim_around(star, order),
     }
 }
 
-// What the entry asks for, by what is seen of the edge.
-fn plan_by(star: &Star, seen: EdgeLook, kind: Kind, to: u32) -> Plan
+/// The plan to try an operation on the edge to `x`, by this chunk.
+pub fn try_planned(chunk: u16, op: Op, star: &Star, x: u32, order: &mut Order) -> Plan
+    ensures { IsPlanBy chunk result }
+{
+    match aim_at(op, star, x, order) {
+        Ok(()) => Plan::Try {
+            asked: Asked { chunk, op },
+        },
+        Err(NoMemory) => Plan::NoRoom,
+    }
+}
+
+/// The plan where the lists have what they are to have.
+pub fn rest_planned(pushed: Result<(), NoMemory>) -> Plan
+    ensures below { (n : ℕ) → IsPlanBelow n result }
+    ensures by { (n : ℕ) → IsPlanBy n result }
+{
+    match pushed {
+        Ok(()) => Plan::Rest,
+        Err(NoMemory) => Plan::NoRoom,
+    }
+}
+
+// What a bisection that had waited asks for, at its place.
+fn late_planned(chunk: u16, op: Op, from: u32, to: u32, place: Place) -> Plan
+    ensures { IsPlanBy chunk result }
+{
+    Plan::Ask {
+        asked: Asked { chunk, op },
+        from,
+        to,
+        place,
+    }
+}
+
+// What the bisection of the edge to `x` comes to, which one of the chunks acts on: the walk goes on, or the bisection waits, or it is
+// tried.
+fn bisection_planned(star: &Star, seen: EdgeLook, x: u32, task: Task, order: &mut Order) -> Plan
     ensures { IsPlanBy seen.chunk result }
 {
-    let Some(op) = op_on(kind, seen, star.node(), to) else {
-        return Plan::Drop;
+    if let Some(span) = seen.longer {
+        order.walk_on(task, span.lo, span.hi);
+        return Plan::Rest;
+    }
+    let place = place_at(star, x);
+    let op = Op::Bisect {
+        a: star.node(),
+        b: x,
     };
-    if is_bisection(op) {
-        if let Some(span) = seen.longer {
-            return Plan::Walk {
-                lo: span.lo,
-                hi: span.hi,
-            };
+    if order.is_forced(task) || !order.is_worn(place) {
+        return try_planned(seen.chunk, op, star, x, order);
+    }
+    if order.is_late(task) {
+        return late_planned(seen.chunk, op, star.node(), x, place);
+    }
+    rest_planned(order.postpone(task))
+}
+
+// What the edge to `x` asks for, which one of the chunks acts on.
+fn edge_planned_by(star: &Star, seen: EdgeLook, edge: EdgeTask, order: &mut Order) -> Plan
+    ensures { IsPlanBy seen.chunk result }
+{
+    let (from, to) = (star.node(), edge.to);
+    match edge.kind {
+        Kind::Far | Kind::Long | Kind::Late => {
+            if seen.long {
+                return bisection_planned(star, seen, to, Task::Edge { edge }, order);
+            }
+        }
+        Kind::Forced => return bisection_planned(star, seen, to, Task::Edge { edge }, order),
+        Kind::Flip => {
+            if seen.shorter_flip {
+                return try_planned(seen.chunk, Op::Flip { a: from, b: to }, star, to, order);
+            }
+        }
+        Kind::Short | Kind::Onto => {
+            if seen.short {
+                return try_planned(seen.chunk, Op::Contract { u: from, v: to }, star, to, order);
+            }
         }
     }
-    Plan::Try {
-        asked: Asked {
-            chunk: seen.chunk,
-            op,
-        },
-        left: left_apex(star, to),
-        right: right_apex(star, to),
+    Plan::Rest
+}
+
+// What a task at an edge asks for, by what is seen of the edge.
+fn planned_by(star: &Star, seen: EdgeLook, task: Task, order: &mut Order) -> Plan
+    ensures { IsPlanBy seen.chunk result }
+{
+    match task {
+        Task::Edge { edge } => edge_planned_by(star, seen, edge, order),
+        Task::Walk { from: _, to } => bisection_planned(star, seen, to, task, order),
+        Task::Node { .. } | Task::Escape { .. } => Plan::Rest,
     }
 }
 
-// What the entry asks for, by the star of an end of its edge.
-fn plan_in(bands: &[Band], chunks: &[u16], star: &Star, kind: Kind, to: u32) -> Plan
+// The other end of a task's edge.
+fn other_end(task: Task) -> u32 {
+    match task {
+        Task::Edge { edge } => edge.to,
+        Task::Walk { from: _, to } => to,
+        Task::Escape { from: _, to } => to,
+        Task::Node { n } => n,
+    }
+}
+
+// What a task asks for, by the star of an end of its edge.
+fn plan_in(bands: &[Band], chunks: &[u16], star: &Star, task: Task, order: &mut Order) -> Plan
     ensures { (n : ℕ) → All (λ c. c < n) chunks.now → IsPlanBelow n result }
 {
-    let Some(seen) = look(bands, star, to) else {
-        return Plan::Drop;
+    if let Task::Node { n: _ } = task {
+        return rest_planned(push_star(bands, chunks, star, order));
+    }
+    if let Task::Escape { from: _, to } = task {
+        return escape_planned(bands, chunks, star, to, order);
+    }
+    let Some(seen) = look(bands, star, other_end(task)) else {
+        return rest_planned(order.drop_task(task));
     };
     if !is_mine(chunks, seen.chunk) {
-        return Plan::Drop;
+        return rest_planned(order.drop_task(task));
     }
-    plan_by(star, seen, kind, to)
+    planned_by(star, seen, task, order)
 }
 
-/// What an entry asks for, by the star that is lent of its edge's end `from`.
+/// What a task asks for, by the star that is lent of its edge's end `n`.
 pub fn planned<R: Rings>(
     r: &R,
     bands: &[Band],
     chunks: &[u16],
-    kind: Kind,
-    from: u32,
-    to: u32,
+    n: u32,
+    task: Task,
+    order: &mut Order,
 ) -> Plan
     ensures { (n : ℕ) → All (λ c. c < n) chunks.now → IsPlanBelow n result }
 {
-    match r.ring(from) {
-        Some(ring) => plan_in(bands, chunks, ring.star(), kind, to),
-        None => Plan::Drop,
+    match r.ring(n) {
+        Some(ring) => plan_in(bands, chunks, ring.star(), task, order),
+        None => rest_planned(order.drop_task(task)),
     }
 }
 
-// Puts a node on its list, where there is one.
-fn push_apex(n: Option<u32>, order: &mut Order) -> Result<(), NoMemory> {
-    match n {
-        Some(n) => order.push_node(n, false),
-        None => Ok(()),
-    }
-}
-
-/// Puts the nodes on their lists whose stars changed by the operation, which was done with this ticket. The apexes
-/// are those of a flip. Want of memory is its only failure.
-pub fn push_changed(
+// Notes that an operation was made with this ticket.
+fn note_made(
     op: Op,
     first_new: u32,
     ticket: u32,
-    left: Option<u32>,
-    right: Option<u32>,
+    task: Task,
     order: &mut Order,
 ) -> Result<(), NoMemory> {
-    order.note_done();
     match op {
-        Op::Flip { a, b } => {
-            order.push_node(a, false)?;
-            order.push_node(b, false)?;
-            push_apex(left, order)?;
-            push_apex(right, order)
-        }
-        Op::Bisect { a: _, b: _ } => order.push_node(first_new.saturating_add(ticket), true),
-        Op::Contract { u: _, v } => order.push_node(v, true),
-    }
-}
-
-// Puts an edge whose operation was refused where it is tried next.
-fn push_refused(kind: Kind, from: u32, to: u32, order: &mut Order) -> Result<(), NoMemory> {
-    match kind {
-        Kind::Walk => order.end_walk(false),
-        Kind::Far | Kind::Long => order.put_off(Task::Edge { kind, from, to }),
-        Kind::Flip => Ok(()),
-        Kind::Short => {
-            if from < to {
-                order.push_edge(Kind::Short, to, from)
-            } else {
-                Ok(())
-            }
+        Op::Flip { .. } => order.note_done(task, None),
+        Op::Bisect { .. } => order.note_done(task, Some(first_new.saturating_add(ticket))),
+        Op::Contract { u, .. } => {
+            order.note_gone(u)?;
+            order.note_done(task, None)
         }
     }
 }
 
-/// Puts an entry whose operation got this answer where it is looked at next. Want of memory is its only failure.
+/// Puts on the lists what follows from this answer to the operation of a task. Want of memory is its only failure.
 pub fn push_answered(
     answer: Answer,
-    kind: Kind,
-    from: u32,
-    to: u32,
+    op: Op,
+    first_new: u32,
+    task: Task,
     order: &mut Order,
 ) -> Result<(), NoMemory> {
     match answer {
-        Answer::Done { ticket: _ } => {
-            if kind == Kind::Walk {
-                order.end_walk(true)
-            } else {
-                Ok(())
-            }
-        }
-        Answer::Busy {
-            at: _,
-            node: _,
-            holder: _,
-        } => {
-            if kind == Kind::Walk {
-                order.end_walk(false)
-            } else {
-                order.put_off(Task::Edge { kind, from, to })
-            }
-        }
-        _ => push_refused(kind, from, to, order),
+        Answer::Done { ticket } => note_made(op, first_new, ticket, task, order),
+        Answer::Busy { .. } => order.put_off(task),
+        Answer::Refused { .. } => order.note_refused(task),
+        Answer::Gone { .. } => order.note_refused(task),
+        Answer::Unborn { .. } => order.note_refused(task),
+        Answer::Spent => Ok(()),
+        Answer::Memory => Ok(()),
     }
-}
-
-/// Puts the edge on the lists where the walk from a long edge goes on. Want of memory is its only failure.
-pub fn push_walk(
-    kind: Kind,
-    from: u32,
-    to: u32,
-    lo: u32,
-    hi: u32,
-    order: &mut Order,
-) -> Result<(), NoMemory> {
-    if kind == Kind::Walk {
-        return order.push_edge(Kind::Walk, lo, hi);
-    }
-    order.begin_walk(Task::Edge { kind, from, to }, lo, hi)
 }

@@ -7,13 +7,13 @@ ghost use Rattle.pf_driver.specs.Plans.{IsPlanBelow};
 ghost use Rattle.pf_driver.specs.Turns.{HasAnswered, HasVisitedOne, OnWent, IsSpentAt, IsWentBy, TellsEnd, TellsStop};
 
 use crate::looking::{Look, look_at};
-use crate::planning::{Plan, planned, push_answered, push_changed, push_walk};
-use pf_attempt::attempt;
+use crate::planning::{Plan, planned, push_answered, rest_planned};
+use pf_attempt::{attempt, probe};
 use pf_core_model::{Answer, Asked};
 use pf_geom::NoMemory;
 use pf_holder::{Hold, Holder};
 use pf_model::Op;
-use pf_order::{Kind, Order, Task};
+use pf_order::{Order, Place, Task};
 use std::alloc::Global;
 
 /// How a turn ended.
@@ -42,7 +42,7 @@ fn wish_answered(answer: Answer, op: Op, first_new: u32, task: Task, order: &mut
     ensures { TellsEnd answer result }
 {
     match answer {
-        Answer::Done { ticket } => went(push_changed(op, first_new, ticket, None, None, order)),
+        Answer::Done { .. } => went(push_answered(answer, op, first_new, task, order)),
         Answer::Refused { at: _, cond: _ } => Turn::Went,
         Answer::Busy {
             at: _,
@@ -70,7 +70,7 @@ fn wish_tried<H: Holder>(alloc: Global, h: &mut H, asked: Asked, n: u32, order: 
     ensures answered { OnWent result (HasAnswered (H.opening h.old) asked (H.seen_at h.old) (H.gained h.old h.new) (H.entries h.old) (H.entries h.new)) }
 {
     let answer = attempt(alloc, h, asked.chunk, asked.op);
-    let task = Task::Node { n, wide: false };
+    let task = Task::Node { n };
     wish_answered(answer, asked.op, h.first_new(), task, order)
 }
 
@@ -94,42 +94,25 @@ pub fn start_turn<H: Holder>(
     ensures spent { IsSpentAt (H.allowance h.new) result }
     ensures visited { OnWent result (HasVisitedOne chunks.now (H.opening h.old) (H.seen_at h.old) (H.gained h.old h.new) (H.entries h.old) (H.entries h.new) n) }
 {
-    match look_at(h, chunks, n, false, order) {
+    match look_at(h, chunks, n, order) {
         Look::Seen { wish } => match wish {
             Some(asked) => wish_tried(alloc, h, asked, n, order),
             None => Turn::Went,
         },
-        Look::Away => went(order.put_off(Task::Node { n, wide: false })),
+        Look::Away => went(order.put_off(Task::Node { n })),
         Look::Absent => Turn::Went,
         Look::NoRoom => Turn::Memory,
     }
 }
 
-// A turn at a node whose star changed: a look at it.
-fn node_turn<H: Holder>(h: &mut H, chunks: &[u16], n: u32, wide: bool, order: &mut Order) -> Turn
-    requires nothing { (H.pairs h.old ≡ []) × (H.unborn h.old ≡ None) × (H.owed h.old ≡ []) }
-    requires lends { LendsAll (H.lent h.old) (H.pairs h.old) }
-    ensures same { H.same h.old h.new }
-    ensures nothing { (H.pairs h.new ≡ []) × (H.unborn h.new ≡ None) × (H.owed h.new ≡ []) }
-    ensures lends { LendsAll (H.lent h.new) (H.pairs h.new) }
-    ensures kept { (H.entries h.new ≡ H.entries h.old) × (H.allowance h.new ≡ H.allowance h.old) × (H.seen_at h.old ≤ H.seen_at h.new) }
-    ensures went { IsWentBy result }
-{
-    match look_at(h, chunks, n, wide, order) {
-        Look::Seen { wish: _ } => Turn::Went,
-        Look::Away => went(order.put_off(Task::Node { n, wide })),
-        Look::Absent => Turn::Went,
-        Look::NoRoom => Turn::Memory,
-    }
-}
-
-// What an edge on the lists asks for, by a look at an end of it. Nothing is held afterwards.
+// What a task asks for, by a look at its node `n`, an end of its edge. Nothing is held afterwards. It is `None` where another
+// holds the node.
 fn edge_planned<H: Holder>(
     h: &mut H,
     chunks: &[u16],
-    kind: Kind,
-    from: u32,
-    to: u32,
+    n: u32,
+    task: Task,
+    order: &mut Order,
 ) -> Option<Plan>
     requires nothing { (H.pairs h.old ≡ []) × (H.unborn h.old ≡ None) × (H.owed h.old ≡ []) }
     requires lends { LendsAll (H.lent h.old) (H.pairs h.old) }
@@ -140,65 +123,35 @@ fn edge_planned<H: Holder>(
     ensures kept { (H.entries h.new ≡ H.entries h.old) × (H.allowance h.new ≡ H.allowance h.old) × (H.seen_at h.old ≤ H.seen_at h.new) }
     ensures near { IfSome result (IsPlanBelow (H.opening h.new).mesh.chunks) }
 {
-    match h.hold(from) {
+    match h.hold(n) {
         Hold::Won => {
-            let found = planned(h, h.bands(), chunks, kind, from, to);
+            let found = planned(h, h.bands(), chunks, n, task, order);
             h.give_back();
             Some(found)
         }
         Hold::Lost { holder: _ } => None,
-        Hold::Dead => Some(Plan::Drop),
-        Hold::Never => Some(Plan::Drop),
+        Hold::Dead => Some(rest_planned(order.drop_task(task))),
+        Hold::Never => Some(rest_planned(order.drop_task(task))),
     }
-}
-
-// Puts what follows an answer on the lists.
-fn push_after(
-    answer: Answer,
-    op: Op,
-    first_new: u32,
-    left: Option<u32>,
-    right: Option<u32>,
-    order: &mut Order,
-) -> Result<(), NoMemory> {
-    match answer {
-        Answer::Done { ticket } => push_changed(op, first_new, ticket, left, right, order),
-        _ => Ok(()),
-    }
-}
-
-// Puts an edge that no longer asks for anything off the lists.
-fn drop_edge(kind: Kind, order: &mut Order) -> Result<(), NoMemory> {
-    if kind == Kind::Walk {
-        return order.end_walk(false);
-    }
-    Ok(())
 }
 
 // How a turn at an edge ends with this answer.
-fn edge_answered(answer: Answer, pushed: Result<(), NoMemory>, order: Result<(), NoMemory>) -> Turn
+fn edge_answered(answer: Answer, pushed: Result<(), NoMemory>) -> Turn
     ensures { TellsStop answer result }
 {
     match answer {
         Answer::Spent => Turn::Spent,
         Answer::Memory => Turn::Memory,
-        _ => match pushed {
-            Ok(()) => went(order),
-            Err(NoMemory) => Turn::Memory,
-        },
+        _ => went(pushed),
     }
 }
 
-// Tries what an edge on the lists asks for.
+// Tries what a task at an edge asks for.
 fn edge_tried<H: Holder>(
     alloc: Global,
     h: &mut H,
     asked: Asked,
-    left: Option<u32>,
-    right: Option<u32>,
-    kind: Kind,
-    from: u32,
-    to: u32,
+    task: Task,
     order: &mut Order,
 ) -> Turn
     requires nothing { (H.pairs h.old ≡ []) × (H.unborn h.old ≡ None) × (H.owed h.old ≡ []) }
@@ -212,19 +165,58 @@ fn edge_tried<H: Holder>(
     ensures spent { IsSpentAt (H.allowance h.new) result }
 {
     let answer = attempt(alloc, h, asked.chunk, asked.op);
-    let changed = push_after(answer, asked.op, h.first_new(), left, right, order);
-    let again = push_answered(answer, kind, from, to, order);
-    edge_answered(answer, changed, again)
+    let pushed = push_answered(answer, asked.op, h.first_new(), task, order);
+    edge_answered(answer, pushed)
 }
 
-// A turn at an edge on the lists: a look at an end of it, and a try of what the list asks for.
+// Puts on the lists what follows from whether a bisection passes that had waited.
+fn push_probed(
+    answer: Option<Answer>,
+    asked: Asked,
+    from: u32,
+    to: u32,
+    place: Place,
+    task: Task,
+    order: &mut Order,
+) -> Result<(), NoMemory> {
+    match answer {
+        Some(answer) => push_answered(answer, asked.op, 0, task, order),
+        None => {
+            order.begin_escape(task, from, to, place);
+            Ok(())
+        }
+    }
+}
+
+// Asks whether a bisection passes that had waited.
+fn edge_probed<H: Holder>(
+    h: &mut H,
+    asked: Asked,
+    from: u32,
+    to: u32,
+    place: Place,
+    task: Task,
+    order: &mut Order,
+) -> Turn
+    requires nothing { (H.pairs h.old ≡ []) × (H.unborn h.old ≡ None) × (H.owed h.old ≡ []) }
+    requires lends { LendsAll (H.lent h.old) (H.pairs h.old) }
+    ensures same { H.same h.old h.new }
+    ensures nothing { (H.pairs h.new ≡ []) × (H.unborn h.new ≡ None) × (H.owed h.new ≡ []) }
+    ensures lends { LendsAll (H.lent h.new) (H.pairs h.new) }
+    ensures kept { (H.entries h.new ≡ H.entries h.old) × (H.allowance h.new ≡ H.allowance h.old) × (H.seen_at h.old ≤ H.seen_at h.new) }
+    ensures went { IsWentBy result }
+{
+    let answer = probe(h, asked.chunk, asked.op);
+    went(push_probed(answer, asked, from, to, place, task, order))
+}
+
+// A turn at a node, an end of the task's edge: a look at it, and a try of what the task asks for.
 fn edge_turn<H: Holder>(
     alloc: Global,
     h: &mut H,
     chunks: &[u16],
-    kind: Kind,
-    from: u32,
-    to: u32,
+    n: u32,
+    task: Task,
     order: &mut Order,
 ) -> Turn
     requires nothing { (H.pairs h.old ≡ []) × (H.unborn h.old ≡ None) × (H.owed h.old ≡ []) }
@@ -237,15 +229,19 @@ fn edge_turn<H: Holder>(
     ensures grown { HasGrown (H.allowance h.old) (H.entries h.old) (H.allowance h.new) (H.entries h.new) }
     ensures spent { IsSpentAt (H.allowance h.new) result }
 {
-    match edge_planned(h, chunks, kind, from, to) {
+    match edge_planned(h, chunks, n, task, order) {
         Some(found) => match found {
-            Plan::Try { asked, left, right } => {
-                edge_tried(alloc, h, asked, left, right, kind, from, to, order)
-            }
-            Plan::Walk { lo, hi } => went(push_walk(kind, from, to, lo, hi, order)),
-            Plan::Drop => went(drop_edge(kind, order)),
+            Plan::Try { asked } => edge_tried(alloc, h, asked, task, order),
+            Plan::Ask {
+                asked,
+                from,
+                to,
+                place,
+            } => edge_probed(h, asked, from, to, place, task, order),
+            Plan::Rest => Turn::Went,
+            Plan::NoRoom => Turn::Memory,
         },
-        None => went(order.put_off(Task::Edge { kind, from, to })),
+        None => went(order.put_off(task)),
     }
 }
 
@@ -268,7 +264,9 @@ pub fn task_turn<H: Holder>(
     ensures spent { IsSpentAt (H.allowance h.new) result }
 {
     match task {
-        Task::Node { n, wide } => node_turn(h, chunks, n, wide, order),
-        Task::Edge { kind, from, to } => edge_turn(alloc, h, chunks, kind, from, to, order),
+        Task::Node { n } => edge_turn(alloc, h, chunks, n, task, order),
+        Task::Edge { edge } => edge_turn(alloc, h, chunks, edge.from, task, order),
+        Task::Walk { from, to: _ } => edge_turn(alloc, h, chunks, from, task, order),
+        Task::Escape { from, to: _ } => edge_turn(alloc, h, chunks, from, task, order),
     }
 }

@@ -4,4 +4,4 @@ use Rattle.pf_finish.specs.declared.todo.Todo.{Todo}
 
 -- how many edges stand on the four stacks
 abbrev pub waiting : Todo → ℕ
-waiting t = length t.far.items + (length t.flips.items + (length t.long.items + length t.short.items))
+waiting t = length t.far + (length t.flips + (length t.long + length t.short))

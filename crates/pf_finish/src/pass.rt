@@ -98,8 +98,8 @@ fn worked_off<H: Holder>(
     'turns: loop {
         match next_answered(alloc, h, end, todo) {
             None => return None,
-            Some(Answered::Done { ticket: _, op }) => {
-                if changed_put(alloc, h, op, todo).is_err() {
+            Some(Answered::Done { ticket, op }) => {
+                if changed_put(alloc, h, ticket, op, todo).is_err() {
                     return Some(FinishEnd::Memory);
                 }
             }
@@ -130,8 +130,8 @@ fn edge_followed<H: Holder>(
 {
     match edge_noted(alloc, h, a, b, end) {
         None => None,
-        Some(Answered::Done { ticket: _, op }) => {
-            if changed_put(alloc, h, op, todo).is_err() {
+        Some(Answered::Done { ticket, op }) => {
+            if changed_put(alloc, h, ticket, op, todo).is_err() {
                 return Some(FinishEnd::Memory);
             }
             worked_off(alloc, h, end, todo)
@@ -281,6 +281,32 @@ fn pass_made<H: Holder>(
     None
 }
 
+// Works on the stacks, and then makes passes until one finds nothing to do.
+fn passes_made<H: Holder>(alloc: Global, h: &mut H, live: &[u32], todo: &mut Todo) -> FinishEnd
+    requires live { (n : ℕ) → IsLive (mesh_alone (H.opening h.old) (H.entries h.old)) n → Contains live.now n }
+    requires alone { H.alone h.old }
+    requires nothing { (H.pairs h.old ≡ []) × (H.unborn h.old ≡ None) × (H.owed h.old ≡ []) }
+    requires lends { LendsAll (H.lent h.old) (H.pairs h.old) }
+    ensures same { H.same h.old h.new }
+    ensures nothing { (H.pairs h.new ≡ []) × (H.unborn h.new ≡ None) × (H.owed h.new ≡ []) }
+    ensures lends { LendsAll (H.lent h.new) (H.pairs h.new) }
+    ensures answered { HasAnswered (H.opening h.old) (H.allowance h.old) (H.entries h.old) (H.allowance h.new) (H.entries h.new) }
+    ensures finished { IsFinished (mesh_alone (H.opening h.old) (H.entries h.new)) (H.allowance h.new) result }
+{
+    let mut end = h.first_new();
+    if nodes_put(h, live, todo).is_err() {
+        return FinishEnd::Memory;
+    }
+    if let Some(finished) = worked_off(alloc, h, &mut end, todo) {
+        return finished;
+    }
+    'passes: loop {
+        if let Some(finished) = pass_made(alloc, h, live, &mut end, todo) {
+            return finished;
+        }
+    }
+}
+
 /// Answers the lines of the rest list that pass until none does, or the allowance is spent, and holds nothing
 /// afterwards. Nobody else holds nodes of the mesh.
 ///
@@ -300,16 +326,5 @@ pub fn finish<H: Holder>(alloc: Global, h: &mut H, live: &[u32]) -> FinishEnd
     ensures finished { IsFinished (mesh_alone (H.opening h.old) (H.entries h.new)) (H.allowance h.new) result }
 {
     let mut todo = Todo::new(alloc);
-    let mut end = h.first_new();
-    if nodes_put(h, live, &mut todo).is_err() {
-        return FinishEnd::Memory;
-    }
-    if let Some(finished) = worked_off(alloc, h, &mut end, &mut todo) {
-        return finished;
-    }
-    'passes: loop {
-        if let Some(finished) = pass_made(alloc, h, live, &mut end, &mut todo) {
-            return finished;
-        }
-    }
+    passes_made(alloc, h, live, &mut todo)
 }

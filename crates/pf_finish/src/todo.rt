@@ -1,5 +1,5 @@
 //! The edges that are still to be looked at: those that may have a line in the rest list, the most urgent first.
-ghost use Rattle.std.specs.Prelude.{◌≡◌, ◌<◌, [], None, IfSome};
+ghost use Rattle.std.specs.Prelude.{◌≡◌, ◌<◌, ◌≤◌, [], None, IfSome, length};
 ghost use Rattle.pf_holder.specs.Facts.{LendsAll};
 ghost use Rattle.pf_finish.specs.Waiting.{waiting};
 
@@ -7,7 +7,8 @@ use crate::edges::span_of;
 use pf_geom::NoMemory;
 use pf_holder::{Hold, Holder};
 use pf_model::{Band, Op};
-use pf_rings::Star;
+use pf_order::EdgeStack;
+use pf_rings::{Star, spoke_to};
 use pf_rules::lengths::Span;
 use pf_wishes::{EdgeLook, look};
 use std::alloc::Global;
@@ -16,38 +17,44 @@ use std::alloc::Global;
 /// each is looked at anew then.
 #[derive(Drop)]
 pub struct Todo {
-    far: Vec<Span>,
-    flips: Vec<Span>,
-    long: Vec<Span>,
-    short: Vec<Span>,
+    far: EdgeStack,
+    flips: EdgeStack,
+    long: EdgeStack,
+    short: EdgeStack,
 }
 
-// Puts an edge on a stack.
-fn push(stack: &mut Vec<Span>, e: Span) -> Result<(), NoMemory> {
-    stack.push(e).map_err(|_| NoMemory)
+// Takes the newest edge of a stack.
+fn pop(stack: &mut EdgeStack) -> Option<Span>
+    ensures fewer { IfSome result (λ _. length stack.new < length stack.old) }
+    ensures most { length stack.new ≤ length stack.old }
+{
+    match stack.pop() {
+        Some((lo, hi)) => Some(Span { lo, hi }),
+        None => None,
+    }
 }
 
 impl Todo {
     /// Nothing is to be looked at.
     pub fn new(alloc: Global) -> Todo {
         Todo {
-            far: Vec::new(alloc),
-            flips: Vec::new(alloc),
-            long: Vec::new(alloc),
-            short: Vec::new(alloc),
+            far: EdgeStack::new(alloc),
+            flips: EdgeStack::new(alloc),
+            long: EdgeStack::new(alloc),
+            short: EdgeStack::new(alloc),
         }
     }
 
     // Puts an edge of which this was seen on its stack, where it may have a line.
     fn put(&mut self, e: Span, seen: EdgeLook) -> Result<(), NoMemory> {
         if seen.far {
-            push(&mut self.far, e)
+            self.far.push(e.lo, e.hi)
         } else if seen.shorter_flip {
-            push(&mut self.flips, e)
+            self.flips.push(e.lo, e.hi)
         } else if seen.long {
-            push(&mut self.long, e)
+            self.long.push(e.lo, e.hi)
         } else if seen.short {
-            push(&mut self.short, e)
+            self.short.push(e.lo, e.hi)
         } else {
             Ok(())
         }
@@ -58,16 +65,16 @@ impl Todo {
     pub fn take(&mut self) -> Option<Span>
         ensures { IfSome result (λ _. waiting self.new < waiting self.old) }
     {
-        if let Some(e) = self.far.pop() {
+        if let Some(e) = pop(&mut self.far) {
             return Some(e);
         }
-        if let Some(e) = self.flips.pop() {
+        if let Some(e) = pop(&mut self.flips) {
             return Some(e);
         }
-        if let Some(e) = self.long.pop() {
+        if let Some(e) = pop(&mut self.long) {
             return Some(e);
         }
-        self.short.pop()
+        pop(&mut self.short)
     }
 }
 
@@ -81,9 +88,12 @@ fn edge_put(bands: &[Band], star: &Star, x: u32, todo: &mut Todo) -> Result<(), 
 
 // The same for each edge of a star.
 fn star_put(bands: &[Band], star: &Star, todo: &mut Todo) -> Result<(), NoMemory> {
-    for s in star.spokes() {
+    let spokes = star.spokes();
+    for s in spokes {
         edge_put(bands, star, s.right, todo)?;
-        edge_put(bands, star, s.left, todo)?;
+        if spoke_to(spokes, s.left).is_none() {
+            edge_put(bands, star, s.left, todo)?;
+        }
     }
     Ok(())
 }
@@ -118,9 +128,12 @@ pub fn node_put<H: Holder>(h: &mut H, n: u32, todo: &mut Todo) -> Result<(), NoM
 
 // Appends the neighbours in a star.
 fn neighbours_put(star: &Star, near: &mut Vec<u32>) -> Result<(), NoMemory> {
-    for s in star.spokes() {
+    let spokes = star.spokes();
+    for s in spokes {
         near.push(s.right).map_err(|_| NoMemory)?;
-        near.push(s.left).map_err(|_| NoMemory)?;
+        if spoke_to(spokes, s.left).is_none() {
+            near.push(s.left).map_err(|_| NoMemory)?;
+        }
     }
     Ok(())
 }
@@ -169,7 +182,7 @@ pub fn nodes_put<H: Holder>(h: &mut H, names: &[u32], todo: &mut Todo) -> Result
     Ok(())
 }
 
-// The same for a node and its neighbours.
+// The same for the neighbours of a node, which have all edges at the node too.
 fn around_put<H: Holder>(alloc: Global, h: &mut H, n: u32, todo: &mut Todo) -> Result<(), NoMemory>
     requires alone { H.alone h.old }
     requires nothing { (H.pairs h.old ≡ []) × (H.unborn h.old ≡ None) × (H.owed h.old ≡ []) }
@@ -181,15 +194,24 @@ fn around_put<H: Holder>(alloc: Global, h: &mut H, n: u32, todo: &mut Todo) -> R
 {
     let mut near = Vec::new(alloc);
     neighbours_of(h, n, &mut near)?;
-    nodes_put(h, &near, todo)?;
-    node_put(h, n, todo)
+    nodes_put(h, &near, todo)
 }
 
-/// The same for the nodes whose stars an operation changed: the node that it left, or both ends of its edge, and what
-/// stands round it.
+// Round which nodes an operation changed stars, where a bisection made this node.
+fn middles_of(op: Op, made: u32) -> (u32, u32) {
+    match op {
+        Op::Flip { a, b } => (a, b),
+        Op::Bisect { a: _, b: _ } => (made, made),
+        Op::Contract { u: _, v } => (v, v),
+    }
+}
+
+/// The same for the nodes whose stars an operation changed, which was made with this ticket: what stands round the
+/// node that a bisection made, round that onto which one was contracted, or at and round the ends of a flip.
 pub fn changed_put<H: Holder>(
     alloc: Global,
     h: &mut H,
+    ticket: u32,
     op: Op,
     todo: &mut Todo,
 ) -> Result<(), NoMemory>
@@ -201,11 +223,11 @@ pub fn changed_put<H: Holder>(
     ensures lends { LendsAll (H.lent h.new) (H.pairs h.new) }
     ensures kept { (H.entries h.new ≡ H.entries h.old) × (H.allowance h.new ≡ H.allowance h.old) }
 {
-    let (a, b) = match op {
-        Op::Flip { a, b } => (a, b),
-        Op::Bisect { a, b } => (a, b),
-        Op::Contract { u: _, v } => (v, v),
-    };
+    let made = h.first_new().saturating_add(ticket);
+    let (a, b) = middles_of(op, made);
     around_put(alloc, h, a, todo)?;
+    if a == b {
+        return Ok(());
+    }
     node_put(h, b, todo)
 }

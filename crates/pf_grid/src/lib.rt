@@ -1,13 +1,15 @@
 //! Grids as meshes: the nodes, triangles, owners and bands of `pf_gen`, built and with their tables.
 #![tactic(auto)]
 
-ghost use Rattle.std.specs.Prelude.{◌≡◌, ◌⊎◌, ◌<◌, ◌≤◌, IfOk, Err, IsErrAnd};
+ghost use Rattle.std.specs.Prelude.{◌≡◌, ◌⊎◌, ◌<◌, ◌≤◌, ◌+◌, ◌*◌, IfOk, Err, IsErrAnd};
+ghost use Rattle.pf_model.specs.Applied.{IsFresh};
 ghost use Rattle.pf_model.specs.Conforming.{IsConforming};
 ghost use Rattle.pf_grid.specs.Mesh.{grid_mesh};
 
 use pf_gen::{bands, chunks, grid_is_built, grid_is_fit, owners, points, triangles};
 use pf_geom::NoMemory;
 use pf_mesh::{Mesh, build};
+use pf_model::built_is_fresh;
 use std::alloc::Global;
 
 /// The most cells a side that a grid is made with.
@@ -23,10 +25,13 @@ pub enum GenErr {
 }
 
 /// The grid with `n` cells a side: nodes (64 i, 64 j) for i and j from 0 to `n`, each cell cut into two triangles by the
-/// diagonal from its lower left corner, in up to four strips of chunks. `Size` comes exactly where `n` isn't from 1 to 64.
+/// diagonal from its lower left corner, in up to four strips of chunks. Its names are those below (n + 1) (n + 1). `Size` comes
+/// exactly where `n` isn't from 1 to 64.
 pub fn grid(alloc: Global, n: u32) -> Result<Mesh, GenErr>
     ensures mesh { IfOk result (λ m. m.mesh ≡ grid_mesh n) }
     ensures conforming { IfOk result (λ m. IsConforming m.mesh) }
+    ensures fresh { IfOk result (λ m. IsFresh m.mesh 0) }
+    ensures names { IfOk result (λ m. m.mesh.first_new ≡ (n + 1) * (n + 1)) }
     ensures size { (n < 1) ⊎ (64 < n) → IsErrAnd result (λ e. e ≡ GenErr.Size) }
     ensures only { result ≡ Err GenErr.Size → (n < 1) ⊎ (64 < n) }
 {
@@ -45,6 +50,8 @@ fn grid_within(alloc: Global, n: u32) -> Result<Mesh, NoMemory>
     requires few { n ≤ 64 }
     ensures mesh { IfOk result (λ m. m.mesh ≡ grid_mesh n) }
     ensures conforming { IfOk result (λ m. IsConforming m.mesh) }
+    ensures fresh { IfOk result (λ m. IsFresh m.mesh 0) }
+    ensures names { IfOk result (λ m. m.mesh.first_new ≡ (n + 1) * (n + 1)) }
 {
     let points = points(alloc, n)?;
     let triangles = triangles(alloc, n)?;
@@ -54,6 +61,7 @@ fn grid_within(alloc: Global, n: u32) -> Result<Mesh, NoMemory>
     };
     grid_is_built();
     grid_is_fit();
+    built_is_fresh();
     let Ok(mesh) = build(alloc, &points, &triangles) else {
         return Err(NoMemory);
     };

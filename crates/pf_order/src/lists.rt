@@ -1,7 +1,10 @@
 //! Lists of edges, each at most once, newest last.
+ghost use Rattle.std.specs.Prelude.{◌<◌, ◌≤◌, length, IfSome};
+
 use indexmap::IndexSet;
 use pf_geom::NoMemory;
 use std::alloc::Global;
+use std::marker::Model;
 
 const SPAN: u64 = 4_294_967_296;
 
@@ -15,10 +18,18 @@ fn unpacked(key: u64) -> (u32, u32) {
     ((key / SPAN) as u32, (key % SPAN) as u32)
 }
 
-/// Directed edges, each at most once.
+/// Directed edges, each at most once. Contracts see a number for each.
 #[derive(Drop)]
 pub struct EdgeStack {
     keys: IndexSet<u64>,
+}
+
+impl Model for EdgeStack {
+    ghost use Rattle.std.specs.Prelude.{ℕ, List};
+
+    ghost Value = { List ℕ };
+
+    ghost view = { λ s. s.keys.keys };
 }
 
 impl EdgeStack {
@@ -38,8 +49,24 @@ impl EdgeStack {
     }
 
     /// Takes the newest edge.
-    pub fn pop(&mut self) -> Option<(u32, u32)> {
+    pub fn pop(&mut self) -> Option<(u32, u32)>
+        ensures fewer { IfSome result (λ _. length self.new < length self.old) }
+        ensures most { length self.new ≤ length self.old }
+    {
         match self.keys.pop() {
+            Some(key) => Some(unpacked(key)),
+            None => None,
+        }
+    }
+
+    /// How many edges there are.
+    pub fn len(&self) -> usize {
+        self.keys.len()
+    }
+
+    /// Takes the edge at this place, counted from the oldest, and puts the newest in its place.
+    pub fn take_at(&mut self, place: usize) -> Option<(u32, u32)> {
+        match self.keys.swap_remove_index(place) {
             Some(key) => Some(unpacked(key)),
             None => None,
         }
@@ -71,5 +98,10 @@ impl NodeStack {
     /// Takes the newest node.
     pub fn pop(&mut self) -> Option<u32> {
         self.names.pop()
+    }
+
+    /// Whether the node is there.
+    pub fn contains(&self, n: u32) -> bool {
+        self.names.contains(&n)
     }
 }

@@ -1,5 +1,5 @@
 -- The grammar of a command line: what its words ask for, or none where they are in no command's form.
-use Rattle.std.specs.Prelude.{◌≤◌, ⊤, ◌==◌, ◌&&◌, ◌++◌, ℕ, Bool, true, false, List, [], ◌∷◌, map, codes, nat_le, Option, Some, None, is_some, option_map, option_and_then, Ok, Err, if◌then◌else◌}
+use Rattle.std.specs.Prelude.{◌≤◌, ◌==◌, ◌&&◌, ◌++◌, ℕ, Bool, true, false, List, [], ◌∷◌, map, codes, nat_le, Option, Some, None, is_some, option_map, option_and_then, Ok, Err, if◌then◌else◌}
 use Rattle.std.specs.Borrow.{Bor}
 use Rattle.std.specs.List.{list_any, before_first, after_first}
 use Rattle.std.specs.Str.{bytes_eq}
@@ -139,14 +139,15 @@ pub data Asked : Type 0 where
   trace : (base file : Text) (scale : ℕ) → Asked
   demo : (cells : ℕ) → Asked
 
--- what is asked multiplies coordinates by at least 1 and at most 1,048,576, where it has coordinates to read
-abbrev pub IsScaled : Asked → Type 0
-IsScaled (adapt base out workers ops turns scale) = (1 ≤ scale) × (scale ≤ 1048576)
-IsScaled (replay base out scale) = (1 ≤ scale) × (scale ≤ 1048576)
-IsScaled (check base scale) = (1 ≤ scale) × (scale ≤ 1048576)
-IsScaled (chunks base scale) = (1 ≤ scale) × (scale ≤ 1048576)
-IsScaled (trace base file scale) = (1 ≤ scale) × (scale ≤ 1048576)
-IsScaled (demo cells) = ⊤
+-- what is asked keeps its bounds: coordinates that are read are multiplied by at least 1 and at most 1,048,576, there are 1 to 64
+-- workers, and a grid has 1 to 64 cells a side
+abbrev pub IsBounded : Asked → Type 0
+IsBounded (adapt base out workers ops turns scale) = ((1 ≤ scale) × (scale ≤ 1048576)) × ((1 ≤ workers) × (workers ≤ 64))
+IsBounded (replay base out scale) = (1 ≤ scale) × (scale ≤ 1048576)
+IsBounded (check base scale) = (1 ≤ scale) × (scale ≤ 1048576)
+IsBounded (chunks base scale) = (1 ≤ scale) × (scale ≤ 1048576)
+IsBounded (trace base file scale) = (1 ≤ scale) × (scale ≤ 1048576)
+IsBounded (demo cells) = (1 ≤ cells) × (cells ≤ 64)
 
 -- `adapt BASE OUT [--workers W] [--ops N] [--turns N] [--scale S]`
 abbrev pub adapt_form : Form

@@ -9,7 +9,7 @@
 ghost use Rattle.std.specs.Prelude.{◌≡◌, ◌≤◌, IfOk, IfSome, Some, None, codes, drop, map, option_map, option_and_then, false};
 ghost use Rattle.clap.specs.Simple.{app_of};
 ghost use Rattle.clap.specs.Matches.{found_of, first_value};
-ghost use Rattle.pf_words.specs.Grammar.{Given, texts_of, command_of, given_of, has_refused, number_of, number_or, number_if, adapt_form, two_form, one_form, demo_form, adapt_of, two_of, one_of, demo_of, replay, check, chunks, trace, IsScaled};
+ghost use Rattle.pf_words.specs.Grammar.{Given, texts_of, command_of, given_of, has_refused, number_of, number_or, number_if, adapt_form, two_form, one_form, demo_form, adapt_of, two_of, one_of, demo_of, replay, check, chunks, trace, IsBounded};
 ghost use Rattle.pf_words.specs.Clap.{Finds, Matched, Reads, Says, option_rule, form_app, no_form};
 ghost use Rattle.clap.specs.Walk.{rule_of};
 ghost use Rattle.pf_words.specs.Shown.{shown};
@@ -63,7 +63,7 @@ pub enum Words<'a> {
 /// What the words ask for, or none exactly where they are in no command's form.
 pub fn read<'a>(alloc: Global, words: &'a [&'a str]) -> Result<Option<Words<'a>>, NoMemory>
     ensures asked { IfOk result (λ asked. option_map shown asked ≡ command_of (texts_of words.entry.now)) }
-    ensures scaled { IfOk result (λ asked. IfSome asked (λ words. IsScaled (shown words))) }
+    ensures bounded { IfOk result (λ asked. IfSome asked (λ words. IsBounded (shown words))) }
 {
     let [name, ..] = words else {
         return Ok(None);
@@ -87,7 +87,7 @@ pub fn read<'a>(alloc: Global, words: &'a [&'a str]) -> Result<Option<Words<'a>>
 
 fn adapt<'a>(alloc: Global, words: &'a [&'a str]) -> Result<Option<Words<'a>>, NoMemory>
     ensures asked { IfOk result (λ asked. option_map shown asked ≡ option_and_then adapt_of (given_of adapt_form (drop 1 (texts_of words.entry.now)))) }
-    ensures scaled { IfOk result (λ asked. IfSome asked (λ words. IsScaled (shown words))) }
+    ensures bounded { IfOk result (λ asked. IfSome asked (λ words. IsBounded (shown words))) }
 {
     match adapt_matches(alloc, words)? {
         Some(matches) => Ok(adapt_in(&matches)),
@@ -97,7 +97,7 @@ fn adapt<'a>(alloc: Global, words: &'a [&'a str]) -> Result<Option<Words<'a>>, N
 
 fn replay<'a>(alloc: Global, words: &'a [&'a str]) -> Result<Option<Words<'a>>, NoMemory>
     ensures asked { IfOk result (λ asked. option_map shown asked ≡ option_and_then (two_of replay) (given_of two_form (drop 1 (texts_of words.entry.now)))) }
-    ensures scaled { IfOk result (λ asked. IfSome asked (λ words. IsScaled (shown words))) }
+    ensures bounded { IfOk result (λ asked. IfSome asked (λ words. IsBounded (shown words))) }
 {
     match two_matches(alloc, "replay", words)? {
         Some(matches) => Ok(replay_in(&matches)),
@@ -107,7 +107,7 @@ fn replay<'a>(alloc: Global, words: &'a [&'a str]) -> Result<Option<Words<'a>>, 
 
 fn check<'a>(alloc: Global, words: &'a [&'a str]) -> Result<Option<Words<'a>>, NoMemory>
     ensures asked { IfOk result (λ asked. option_map shown asked ≡ option_and_then (one_of check) (given_of one_form (drop 1 (texts_of words.entry.now)))) }
-    ensures scaled { IfOk result (λ asked. IfSome asked (λ words. IsScaled (shown words))) }
+    ensures bounded { IfOk result (λ asked. IfSome asked (λ words. IsBounded (shown words))) }
 {
     match one_matches(alloc, "check", words)? {
         Some(matches) => Ok(check_in(&matches)),
@@ -117,7 +117,7 @@ fn check<'a>(alloc: Global, words: &'a [&'a str]) -> Result<Option<Words<'a>>, N
 
 fn chunks<'a>(alloc: Global, words: &'a [&'a str]) -> Result<Option<Words<'a>>, NoMemory>
     ensures asked { IfOk result (λ asked. option_map shown asked ≡ option_and_then (one_of chunks) (given_of one_form (drop 1 (texts_of words.entry.now)))) }
-    ensures scaled { IfOk result (λ asked. IfSome asked (λ words. IsScaled (shown words))) }
+    ensures bounded { IfOk result (λ asked. IfSome asked (λ words. IsBounded (shown words))) }
 {
     match one_matches(alloc, "chunks", words)? {
         Some(matches) => Ok(chunks_in(&matches)),
@@ -127,7 +127,7 @@ fn chunks<'a>(alloc: Global, words: &'a [&'a str]) -> Result<Option<Words<'a>>, 
 
 fn trace<'a>(alloc: Global, words: &'a [&'a str]) -> Result<Option<Words<'a>>, NoMemory>
     ensures asked { IfOk result (λ asked. option_map shown asked ≡ option_and_then (two_of trace) (given_of two_form (drop 1 (texts_of words.entry.now)))) }
-    ensures scaled { IfOk result (λ asked. IfSome asked (λ words. IsScaled (shown words))) }
+    ensures bounded { IfOk result (λ asked. IfSome asked (λ words. IsBounded (shown words))) }
 {
     match two_matches(alloc, "trace", words)? {
         Some(matches) => Ok(trace_in(&matches)),
@@ -137,7 +137,7 @@ fn trace<'a>(alloc: Global, words: &'a [&'a str]) -> Result<Option<Words<'a>>, N
 
 fn demo<'a>(alloc: Global, words: &'a [&'a str]) -> Result<Option<Words<'a>>, NoMemory>
     ensures asked { IfOk result (λ asked. option_map shown asked ≡ option_and_then demo_of (given_of demo_form (drop 1 (texts_of words.entry.now)))) }
-    ensures scaled { IfOk result (λ asked. IfSome asked (λ words. IsScaled (shown words))) }
+    ensures bounded { IfOk result (λ asked. IfSome asked (λ words. IsBounded (shown words))) }
 {
     match demo_matches(alloc, words)? {
         Some(matches) => Ok(demo_in(&matches)),
@@ -149,7 +149,7 @@ fn demo<'a>(alloc: Global, words: &'a [&'a str]) -> Result<Option<Words<'a>>, No
 
 fn adapt_in<'a>(matches: &ArgMatches<'a>) -> Option<Words<'a>>
     ensures asked { (given : Given) → Says given matches.now → option_map shown result ≡ adapt_of given }
-    ensures scaled { IfSome result (λ words. IsScaled (shown words)) }
+    ensures bounded { IfSome result (λ words. IsBounded (shown words)) }
 {
     let base = matches.get_str("base")?;
     let out = matches.get_str("out")?;
@@ -169,7 +169,7 @@ fn adapt_in<'a>(matches: &ArgMatches<'a>) -> Option<Words<'a>>
 
 fn replay_in<'a>(matches: &ArgMatches<'a>) -> Option<Words<'a>>
     ensures asked { (given : Given) → Says given matches.now → option_map shown result ≡ two_of replay given }
-    ensures scaled { IfSome result (λ words. IsScaled (shown words)) }
+    ensures bounded { IfSome result (λ words. IsBounded (shown words)) }
 {
     let base = matches.get_str("base")?;
     let out = matches.get_str("other")?;
@@ -179,7 +179,7 @@ fn replay_in<'a>(matches: &ArgMatches<'a>) -> Option<Words<'a>>
 
 fn check_in<'a>(matches: &ArgMatches<'a>) -> Option<Words<'a>>
     ensures asked { (given : Given) → Says given matches.now → option_map shown result ≡ one_of check given }
-    ensures scaled { IfSome result (λ words. IsScaled (shown words)) }
+    ensures bounded { IfSome result (λ words. IsBounded (shown words)) }
 {
     let base = matches.get_str("base")?;
     let scale = scale(matches)?;
@@ -188,7 +188,7 @@ fn check_in<'a>(matches: &ArgMatches<'a>) -> Option<Words<'a>>
 
 fn chunks_in<'a>(matches: &ArgMatches<'a>) -> Option<Words<'a>>
     ensures asked { (given : Given) → Says given matches.now → option_map shown result ≡ one_of chunks given }
-    ensures scaled { IfSome result (λ words. IsScaled (shown words)) }
+    ensures bounded { IfSome result (λ words. IsBounded (shown words)) }
 {
     let base = matches.get_str("base")?;
     let scale = scale(matches)?;
@@ -197,7 +197,7 @@ fn chunks_in<'a>(matches: &ArgMatches<'a>) -> Option<Words<'a>>
 
 fn trace_in<'a>(matches: &ArgMatches<'a>) -> Option<Words<'a>>
     ensures asked { (given : Given) → Says given matches.now → option_map shown result ≡ two_of trace given }
-    ensures scaled { IfSome result (λ words. IsScaled (shown words)) }
+    ensures bounded { IfSome result (λ words. IsBounded (shown words)) }
 {
     let base = matches.get_str("base")?;
     let file = matches.get_str("other")?;
@@ -207,7 +207,7 @@ fn trace_in<'a>(matches: &ArgMatches<'a>) -> Option<Words<'a>>
 
 fn demo_in<'a>(matches: &ArgMatches<'a>) -> Option<Words<'a>>
     ensures asked { (given : Given) → Says given matches.now → option_map shown result ≡ demo_of given }
-    ensures scaled { IfSome result (λ words. IsScaled (shown words)) }
+    ensures bounded { IfSome result (λ words. IsBounded (shown words)) }
 {
     let word = matches.get_str("cells")?;
     let cells = number(1, 64, word)?;

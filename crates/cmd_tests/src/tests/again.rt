@@ -77,7 +77,11 @@ fn copy(alloc: Global, shelf: &MemShelf, name: &str) -> Result<Vec<u8>, AllocErr
 }
 
 // A replay of an empty journal writes a mesh, and a replay on what it wrote writes the same.
-fn assert_again(rt: &(impl Abort + AllocGlobal), base: u32, seed: u32) -> Result<(), Fail> {
+fn assert_again(
+    rt: &(impl Abort + AllocGlobal + Threads + Sync),
+    base: u32,
+    seed: u32,
+) -> Result<(), Fail> {
     let alloc = rt.alloc();
     let mut shelf = MemShelf::new(alloc, Vec::new(alloc));
     shelf.put("g.node", &moved_node(alloc, base, seed)?)?;
@@ -93,8 +97,28 @@ fn assert_again(rt: &(impl Abort + AllocGlobal), base: u32, seed: u32) -> Result
     shelf.room("p.part", 20_000)?;
     let mut out = MemSink::new(alloc, Vec::new(alloc));
     out.room(1000)?;
-    assert_eq!(rt; run(alloc, &["replay", "g", "o"], &mut shelf, &mut out), 0);
-    assert_eq!(rt; run(alloc, &["replay", "o", "p"], &mut shelf, &mut out), 0);
+    assert_eq!(rt;
+        run(
+            rt,
+            alloc,
+            &["replay", "g", "o"],
+            &mut shelf,
+            &mut out,
+            &OpenGate
+        ),
+        0
+    );
+    assert_eq!(rt;
+        run(
+            rt,
+            alloc,
+            &["replay", "o", "p"],
+            &mut shelf,
+            &mut out,
+            &OpenGate
+        ),
+        0
+    );
     let node = copy(alloc, &shelf, "o.node")?;
     let ele = copy(alloc, &shelf, "o.ele")?;
     let part = copy(alloc, &shelf, "o.part")?;

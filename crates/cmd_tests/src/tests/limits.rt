@@ -85,7 +85,10 @@ fn a_file_that_is_longer_than_allowed_is_named(rt: HostRuntime) -> Result<(), Fa
         };
         let mut out = MemSink::new(alloc, Vec::new(alloc));
         out.room(1000)?;
-        assert_eq!(rt; run(alloc, &["check", "k"], &mut shelf, &mut out), 1);
+        assert_eq!(rt;
+            run(&rt, alloc, &["check", "k"], &mut shelf, &mut out, &OpenGate),
+            1
+        );
         assert!(rt; out.text() == said);
     }
     Ok(())

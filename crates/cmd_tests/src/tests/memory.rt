@@ -34,7 +34,7 @@ fn take_all(alloc: Global) -> Result<Vec<Vec<u8>>, AllocError> {
 
 // A run of the kite with this file made long by empty lines ends with 5 where no memory is left, and else is done.
 fn assert_needs_memory(
-    rt: &(impl Abort + AllocGlobal),
+    rt: &(impl Abort + AllocGlobal + Threads + Sync),
     name: &str,
     text: &[u8],
 ) -> Result<(), Fail> {
@@ -47,7 +47,7 @@ fn assert_needs_memory(
     out.room(1000)?;
     let words = ["replay", "k", "o"];
     let taken = take_all(alloc)?;
-    let status = run(alloc, &words, &mut shelf, &mut out);
+    let status = run(rt, alloc, &words, &mut shelf, &mut out, &OpenGate);
     drop(taken);
     assert_eq!(rt; status, 5);
     let said: &[u8] = b"parfum: out of memory\n";

@@ -72,7 +72,7 @@ fn mesh_of(alloc: Global, shelf: &MemShelf, names: Names) -> Result<Mesh, Fail> 
 
 // The mesh of these files has a rest list with this text.
 fn assert_lists(
-    rt: &(impl Abort + AllocGlobal),
+    rt: &(impl Abort + AllocGlobal + Threads + Sync),
     shelf: &MemShelf,
     names: Names,
     text: &[u8],
@@ -85,7 +85,10 @@ fn assert_lists(
 }
 
 // The mesh has a rest list with this text.
-fn assert_rest(rt: &(impl Abort + AllocGlobal), listed: Listed<'_>) -> Result<(), Fail> {
+fn assert_rest(
+    rt: &(impl Abort + AllocGlobal + Threads + Sync),
+    listed: Listed<'_>,
+) -> Result<(), Fail> {
     let shelf = shelf_of(rt.alloc(), listed.input, b"")?;
     assert_lists(rt, &shelf, READ, listed.text)
 }

@@ -46,7 +46,7 @@ const COVERED: Input<'static> = Input {
 
 // A replay ends with this status and says this.
 fn assert_ends(
-    rt: &(impl Abort + AllocGlobal),
+    rt: &(impl Abort + AllocGlobal + Threads + Sync),
     input: Input<'_>,
     journal: &[u8],
     status: u8,
@@ -60,7 +60,7 @@ fn assert_ends(
 
 // A journal of one operation is refused for this reason.
 fn assert_refuses(
-    rt: &(impl Abort + AllocGlobal),
+    rt: &(impl Abort + AllocGlobal + Threads + Sync),
     input: Input<'_>,
     operation: &[u8],
     reason: &[u8],
@@ -76,7 +76,7 @@ fn assert_refuses(
 
 // A replay writes these files.
 fn assert_writes(
-    rt: &(impl Abort + AllocGlobal),
+    rt: &(impl Abort + AllocGlobal + Threads + Sync),
     input: Input<'_>,
     journal: &[u8],
     said: &[u8],

@@ -33,7 +33,7 @@ fn traced(
 
 // The trace of a mesh ends with this status and says this, and no file is changed.
 fn assert_traced(
-    rt: &(impl Abort + AllocGlobal),
+    rt: &(impl Abort + AllocGlobal + Threads + Sync),
     input: Input<'_>,
     trace: &[u8],
     status: u8,

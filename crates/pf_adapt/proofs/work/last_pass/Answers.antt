@@ -1,4 +1,4 @@
-use Rattle.std.proofs.Common.{◌≡◌, ◌≤◌, ◌∙◌, ap, subst, length, inl, inr}
+use Rattle.std.proofs.Common.{◌≤◌, ◌∙◌, ap, subst, length, inl, inr}
 use Rattle.pf_core_model.specs.Core.{Opening}
 use Rattle.pf_holder.specs.Facts.{history_in}
 use Rattle.pf_adapt.proofs.Known.{done-within, done-all}

@@ -1,4 +1,4 @@
-use Rattle.std.proofs.Common.{◌≡◌, ◌∙◌, flat_map}
+use Rattle.std.proofs.Common.{◌∙◌, flat_map}
 use Rattle.std.specs.List.{range_with_len}
 use Rattle.pf_assemble.specs.Listed.{part_text}
 use Rattle.pf_assemble.proofs.Texted.{list-of-mesh}

@@ -1,4 +1,4 @@
-use Rattle.std.proofs.Common.{◌≡◌, ◌∙◌, ◌++◌, ap, sym}
+use Rattle.std.proofs.Common.{◌∙◌, ◌++◌, ap, sym}
 use Rattle.pf_assemble.specs.Listed.{part_text}
 use Rattle.pf_assemble.proofs.Loops.{ranged-more}
 use Rattle.pf_assemble.proofs.chunks.list_of.Goals as goal

@@ -1,4 +1,4 @@
-use Rattle.std.proofs.Common.{◌≡◌, ◌≤◌, length, arith}
+use Rattle.std.proofs.Common.{◌≤◌, length, arith}
 use Rattle.pf_model.specs.Texts.{line_text}
 use Rattle.pf_assemble.specs.ChunkList.{ghost_words}
 use Rattle.pf_assemble.proofs.Loops.{made-more, made-all}

@@ -3,7 +3,8 @@ use Rattle.std.specs.Prelude.{filter}
 use Rattle.std.proofs.lemmas.List.{length-map}
 use Rattle.pf_assemble.specs.declared.lines.Counts.{Counts}
 use Rattle.pf_assemble.specs.ChunkList.{is_ghost, is_shared_by_others}
-use Rattle.pf_assemble.specs.Divided.{shown_copy, copies_in}
+use Rattle.pf_locks.specs.Closes.{shown_copy}
+use Rattle.pf_assemble.specs.Divided.{copies_in}
 use Rattle.pf_assemble.specs.Listed.{counts_of, shared_in}
 use Rattle.pf_assemble.proofs.Texted.{part-behind, shown-filter}
 use Rattle.pf_assemble.proofs.chunks.put_part.Goals as goal

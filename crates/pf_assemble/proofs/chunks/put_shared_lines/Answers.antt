@@ -1,8 +1,8 @@
-use Rattle.std.proofs.Common.{◌≡◌, ◌≤◌, length, arith}
+use Rattle.std.proofs.Common.{◌≤◌, length, arith}
 use Rattle.pf_model.specs.Texts.{line_text}
 use Rattle.pf_star.specs.declared.copies.ChunkCopy.{ChunkCopy}
 use Rattle.pf_assemble.specs.ChunkList.{shared_words}
-use Rattle.pf_assemble.specs.Divided.{shown_copy}
+use Rattle.pf_locks.specs.Closes.{shown_copy}
 use Rattle.pf_assemble.proofs.Loops.{made-item, made-all}
 use Rattle.pf_assemble.proofs.chunks.put_shared_lines.Goals as goal
 

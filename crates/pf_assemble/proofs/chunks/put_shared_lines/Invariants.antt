@@ -1,7 +1,7 @@
 use Rattle.std.proofs.Common.{◌≡◌, ◌++◌, drop, flat_map}
 use Rattle.pf_model.specs.Texts.{line_text}
 use Rattle.pf_assemble.specs.ChunkList.{shared_words}
-use Rattle.pf_assemble.specs.Divided.{shown_copy}
+use Rattle.pf_locks.specs.Closes.{shown_copy}
 use Rattle.pf_assemble.proofs.chunks.put_shared_lines.Given as goal
 
 -- what was put, and the lines that are left

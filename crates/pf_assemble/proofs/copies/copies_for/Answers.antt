@@ -1,4 +1,4 @@
-use Rattle.std.proofs.Common.{◌≡◌, ◌∙◌, ◌++◌, ap, sym}
+use Rattle.std.proofs.Common.{◌∙◌, ◌++◌, ap, sym}
 use Rattle.pf_assemble.specs.Divided.{copies_in}
 use Rattle.pf_assemble.proofs.Loops.{ranged-more}
 use Rattle.pf_assemble.proofs.copies.copies_for.Goals as goal

@@ -1,6 +1,7 @@
 use Rattle.std.proofs.Common.{◌≡◌, flat_map, map}
 use Rattle.std.specs.List.{range_with_len}
-use Rattle.pf_assemble.specs.Divided.{shown_copy, copies_in}
+use Rattle.pf_locks.specs.Closes.{shown_copy}
+use Rattle.pf_assemble.specs.Divided.{copies_in}
 use Rattle.pf_assemble.proofs.copies.copies_for.Given as goal
 
 -- the copies of the chunks before this one

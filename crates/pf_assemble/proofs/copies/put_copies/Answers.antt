@@ -1,6 +1,7 @@
-use Rattle.std.proofs.Common.{◌≡◌, ◌≤◌, ◌∙◌, ◌++◌, [], ◌∷◌, ap, sym, map, length, arith, Some}
+use Rattle.std.proofs.Common.{◌≤◌, ◌∙◌, ◌++◌, [], ◌∷◌, ap, map, length, arith, Some}
 use Rattle.pf_model.specs.Stars.{Star}
-use Rattle.pf_assemble.specs.Divided.{shown_copy, copies_in}
+use Rattle.pf_locks.specs.Closes.{shown_copy}
+use Rattle.pf_assemble.specs.Divided.{copies_in}
 use Rattle.pf_assemble.proofs.Loops.{made-item, made-all}
 use Rattle.pf_assemble.proofs.Texted.{one-by-one, due}
 use Rattle.pf_assemble.proofs.copies.put_copies.Goals as goal

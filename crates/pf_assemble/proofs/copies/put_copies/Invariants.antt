@@ -1,5 +1,6 @@
 use Rattle.std.proofs.Common.{◌≡◌, [], ◌∷◌, ◌++◌, drop, flat_map, map}
-use Rattle.pf_assemble.specs.Divided.{shown_copy, copies_in}
+use Rattle.pf_locks.specs.Closes.{shown_copy}
+use Rattle.pf_assemble.specs.Divided.{copies_in}
 use Rattle.pf_assemble.proofs.copies.put_copies.Given as goal
 
 -- what was put, and what the stars that are left give

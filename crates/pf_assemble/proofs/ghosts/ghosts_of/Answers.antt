@@ -1,4 +1,4 @@
-use Rattle.std.proofs.Common.{◌≡◌, ◌∙◌, ap, flat_map}
+use Rattle.std.proofs.Common.{◌∙◌, ap, flat_map}
 use Rattle.pf_assemble.specs.Marks.{reached}
 use Rattle.pf_assemble.proofs.Reached.{reached-ghosts}
 use Rattle.pf_assemble.proofs.ghosts.ghosts_of.Goals as goal

@@ -1,4 +1,4 @@
-use Rattle.std.proofs.Common.{◌≡◌, ◌≤◌, length, arith}
+use Rattle.std.proofs.Common.{◌≤◌, length, arith}
 use Rattle.pf_assemble.specs.Marks.{reached}
 use Rattle.pf_assemble.proofs.Loops.{made-more, made-all}
 use Rattle.pf_assemble.proofs.ghosts.reached_by.Goals as goal

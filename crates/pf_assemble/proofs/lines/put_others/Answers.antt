@@ -1,4 +1,4 @@
-use Rattle.std.proofs.Common.{◌≡◌, ◌∙◌, ◌++◌, ap, sym, flat_map, append_assoc}
+use Rattle.std.proofs.Common.{◌∙◌, ◌++◌, ap, sym, flat_map, append_assoc}
 use Rattle.std.specs.List.{range_with_len}
 use Rattle.pf_assemble.specs.Spaced.{spaced_other}
 use Rattle.pf_assemble.proofs.Loops.{ranged-more}

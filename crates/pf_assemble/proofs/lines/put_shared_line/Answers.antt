@@ -1,4 +1,4 @@
-use Rattle.std.proofs.Common.{◌≡◌, ◌∙◌, [], ◌∷◌, ◌++◌, ap}
+use Rattle.std.proofs.Common.{◌∙◌, [], ◌∷◌, ◌++◌, ap}
 use Rattle.std.specs.Prelude.{codes, decimal, unwrap_or, filter, map, flat_map}
 use Rattle.std.specs.List.{range_with_len}
 use Rattle.pf_model.specs.Stars.{keeper_in}

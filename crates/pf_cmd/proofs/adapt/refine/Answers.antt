@@ -9,7 +9,7 @@ use Rattle.pf_cmd.proofs.adapt.refine.Goals as goal
 pub returns-in_err-adapted-clause-stop : goal.returns-in_err-adapted-clause-stop
 returns-in_err-adapted-clause-stop g c =
     let p = err_from_is_err_and c.from_residual-in_err-adapted.result c.from_residual-in_err-adapted.ensures.1 in
-    rw p.1 (memory-explains (Node ∷ Ele ∷ Part ∷ Size ∷ []) _ _ _ (budgeted_in c.args.ops c.args.scale) _ p.2 c.in_ok-base.ensures.quiet)
+    rw p.1 (memory-explains (Node ∷ Ele ∷ Part ∷ Size ∷ []) _ _ _ (budgeted_in c.args.work.ops c.args.scale) _ p.2 c.in_ok-base.ensures.quiet)
 
 pub returns-clause-tickets : goal.returns-clause-tickets
 returns-clause-tickets g c = legal-tickets 0 _ _ c.in_ok-adapted.ensures.adapted.legal

@@ -19,7 +19,7 @@ returns-in_err-after-clause-stops g c =
     let p = err_from_is_err_and c.from_residual.result c.from_residual.ensures.1 in
     rw (p.1, p.2)
     (inr (record {
-      explained = explains-then (Node ∷ Ele ∷ Part ∷ Size ∷ []) (Node ∷ Ele ∷ Part ∷ Size ∷ []) _ _ _ (budgeted_in c.args.ops c.args.scale) (λ f input. Ok (to_adapt input)) _ (λ q a. a) c.in_err-after.ensures.stop;
+      explained = explains-then (Node ∷ Ele ∷ Part ∷ Size ∷ []) (Node ∷ Ele ∷ Part ∷ Size ∷ []) _ _ _ (budgeted_in c.args.work.ops c.args.scale) (λ f input. Ok (to_adapt input)) _ (λ q a. a) c.in_err-after.ensures.stop;
       only_read = c.in_err-after.ensures.only_read;
     }))
 
@@ -28,7 +28,7 @@ returns-in_err-output-clause-stops g c =
     let p = err_from_is_err_and c.from_residual-in_err-output.result c.from_residual-in_err-output.ensures.1 in
     rw (p.1, p.2)
     (inr (record {
-      explained = memory-explains (Node ∷ Ele ∷ Part ∷ Size ∷ []) _ _ _ (input_in (record { task = Adapt c.args.ops; stems = stems_of c.args.stems; scale = c.args.scale })) _ c.in_err-output.ensures.memory c.in_ok-after.ensures.quiet;
+      explained = memory-explains (Node ∷ Ele ∷ Part ∷ Size ∷ []) _ _ _ (input_in (record { task = Adapt c.args.work.workers c.args.work.ops c.args.work.turns; stems = stems_of c.args.stems; scale = c.args.scale })) _ c.in_err-output.ensures.memory c.in_ok-after.ensures.quiet;
       only_read = c.in_ok-after.ensures.only_read;
     }))
 

@@ -1,4 +1,4 @@
-use Rattle.std.proofs.Common.{◌≡◌, ℕ, List, refl, sym, ◌∙◌, ap, subst, Some, None, ◌⊎◌, inl, inr, true, arith}
+use Rattle.std.proofs.Common.{option_map, ◌≡◌, ℕ, List, refl, sym, ◌∙◌, ap, subst, Some, None, ◌⊎◌, inl, inr, true, arith}
 use Rattle.pf_shelf.specs.Seen.{Seen, Heard}
 use Rattle.pf_say.specs.declared.stop.Trouble.TheVariants.{Missing, Unread, Unwritten, Memory}
 use Rattle.pf_say.specs.declared.stop.Stop.{Stop}
@@ -6,7 +6,7 @@ use Rattle.pf_say.specs.declared.stop.Stop.TheVariants.{Input, Limit, Operation,
 use Rattle.pf_say.specs.Shown.{stems_of}
 use Rattle.pf_say.specs.Stop.{status_of, line_of, trouble_in, memory_stop, memory_text}
 use Rattle.pf_cmd.specs.Shown.{shown}
-use Rattle.pf_cmd.specs.Words.{command_of}
+use Rattle.pf_cmd.specs.Words.{command_in}
 use Rattle.pf_cmd.specs.Causes.{IsQuiet, is_unread, is_missing}
 use Rattle.pf_cmd.specs.Commands.{Command, input_in, reads_of}
 use Rattle.pf_cmd.specs.Ends.{Stops, StopsReading}
@@ -35,20 +35,20 @@ forgotten command old new stop e stops = elim stops [
 ]
 
 -- the reason was said, or that memory ran out
-stop-runs : (words : List (List ℕ)) (old new : Seen) (silent heard : Heard) (r : ℕ) (command : Command) (stop : Stop) → command_of words ≡ Some command → Stops command old new stop → IsSaid (status_of stop) (line_of command.stems stop) silent heard r ⊎ ((trouble_in stop ≡ None) × IsSaid 5 memory_text silent heard r) → Runs words old new silent heard r
+stop-runs : (words : List (List ℕ)) (old new : Seen) (silent heard : Heard) (r : ℕ) (command : Command) (stop : Stop) → command_in words ≡ Some command → Stops command old new stop → IsSaid (status_of stop) (line_of command.stems stop) silent heard r ⊎ ((trouble_in stop ≡ None) × IsSaid 5 memory_text silent heard r) → Runs words old new silent heard r
 stop-runs words old new silent heard r command stop asked stops says = elim says [
   | inl a ↦ record { status = status_of stop; text = line_of command.stems stop; due = stopped command asked stop stops refl refl; said = a }
   | inr b ↦ record { status = 5; text = memory_text; due = stopped command asked memory_stop (forgotten command old new stop b.0 stops) refl refl; said = b.1 }
 ]
 
-pub returns-in-Ok-clause-runs : goal.returns-in-Ok-clause-runs
-returns-in-Ok-clause-runs g c = record {
+pub returns-in-Ok-perform-clause-runs : goal.returns-in-Ok-perform-clause-runs
+returns-in-Ok-perform-clause-runs g c = record {
   status = 0;
-  text = c.in-Ok.report.items;
-  due = done (shown c.in-Some.command) (sym c.in-Some.ensures.command) c.in-Ok.ensures.done refl;
-  said = subst (λ text. IsSaid 0 text (g.K.Sink.heard c.args.out.now) (g.K.Sink.heard c.say-in-Ok.new.out) c.say-in-Ok.result) c.deref.ensures.value c.say-in-Ok.ensures;
+  text = c.in-Ok-perform.report.items;
+  due = done (shown c.in-Some.command) (sym c.in-Ok.ensures.command ∙ ap (option_map shown) c.in-Some.is) c.in-Ok-perform.ensures.done refl;
+  said = subst (λ text. IsSaid 0 text (g.K.Sink.heard c.args.out.now) (g.K.Sink.heard c.say-in-Ok-perform.new.out) c.say-in-Ok-perform.result) c.deref.ensures.value c.say-in-Ok-perform.ensures;
 }
 
 pub returns-in-Err-clause-runs : goal.returns-in-Err-clause-runs
 returns-in-Err-clause-runs g c =
-    stop-runs _ _ _ _ _ _ (shown c.in-Some.command) c.in-Err.stop (sym c.in-Some.ensures.command) c.in-Err.ensures.stops c.say_stop.ensures
+    stop-runs _ _ _ _ _ _ (shown c.in-Some.command) c.in-Err.stop (sym c.in-Ok.ensures.command ∙ ap (option_map shown) c.in-Some.is) c.in-Err.ensures.stops c.say_stop.ensures

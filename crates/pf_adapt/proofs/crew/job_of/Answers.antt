@@ -1,0 +1,7 @@
+use Rattle.std.proofs.Common.{sym, subst}
+use Rattle.pf_workers.specs.declared.parts.Part.{Part}
+use Rattle.pf_workers.specs.Jobs.{IsPartOf}
+use Rattle.pf_adapt.proofs.crew.job_of.Goals as goal
+
+pub returns-clause-part : goal.returns-clause-part
+returns-clause-part c = subst (λ (x : Part). IsPartOf c.args.board.now.table.shared.key.mesh x) (sym c.index-parts-worker.is) (c.requires.parts c.args.seat.number c.index-parts-worker.result c.requires.number)

@@ -1,5 +1,0 @@
-use Rattle.std.proofs.Common.{length}
-use Rattle.pf_cmd.proofs.words.+are_choices.Given as goal
-
-abbrev pub decreases-are_choices : goal.decreases-are_choices
-decreases-are_choices l = length l.words.now

@@ -1,0 +1,5 @@
+pub mod Hands
+pub mod Next
+pub mod Later
+pub mod HandLaws
+pub mod Laws

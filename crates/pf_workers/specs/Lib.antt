@@ -1,0 +1,5 @@
+pub mod Shares
+pub mod Keepers
+pub mod Parts
+pub mod Crew
+pub mod Jobs
