@@ -7,6 +7,9 @@
 # how many chunks they are cut (1), and WORKERS how many workers there are (1). Chunks are strips of rows, at least 16 of them
 # where there are several chunks, so that each worker has a part of the finer quarter.
 #
+# With GRID=demo the grids are those of the command `demo`, which itself makes them for up to 64 cells a side: square cells, four
+# strips of rows as chunks whatever CHUNKS says, and a finer corner. SIDES=700 makes about a million triangles.
+#
 # Each time is the best of RUNS runs (3 if unset), of the whole process, beside that of a run that may do no operation, which
 # reads, divides, lists and writes. Then come the peak of its memory, how many operations it did, whether it came to rest, and
 # the time of an operation: the difference of both times, divided by their number. Where YARDSTICK names a program that takes
@@ -16,9 +19,31 @@ set -euo pipefail
 runs=${RUNS:-3}
 yardstick=${YARDSTICK:-}
 
+# The grid of `demo` with n by n cells.
+make_demo() {
+    awk -v n="$1" 'BEGIN {
+        print (n + 1) * (n + 1), 2, 0, 0 > "g.node"
+        for (y = 0; y <= n; y++) for (x = 0; x <= n; x++) print k++, 64 * x, 64 * y > "g.node"
+        print 2 * n * n, 3, 0 > "g.ele"
+        for (y = 0; y < n; y++) for (x = 0; x < n; x++) {
+            a = y * (n + 1) + x
+            print f++, a, a + 1, a + n + 2 > "g.ele"
+            print f++, a, a + n + 2, a + n + 1 > "g.ele"
+            c = int(4 * y / n)
+            print c "\n" c > "g.part"
+        }
+        print 0, 0, 16 * n, 16 * n, 256, 2048 > "g.size"
+        print "default 0 8192" > "g.size"
+    }'
+}
+
 # A grid of n by n cells, each cut by its longer diagonal, in so many chunks.
 make_grid() {
     rm -f ./*.node ./*.ele ./*.part ./*.size ./*.journal ./*.rest
+    if [[ ${GRID:-} == demo ]]; then
+        make_demo "$1"
+        return
+    fi
     awk -v n="$1" -v chunks="$2" 'BEGIN {
         strips = chunks == 1 ? 1 : chunks < 16 ? 16 : chunks
         print (n + 1) * (n + 1), 2, 0, 0 > "g.node"

@@ -169,8 +169,8 @@ fn leaves_what_is_fine(rt: HostRuntime) -> Result<(), Fail> {
 fn spends_the_budget(rt: HostRuntime) -> Result<(), Fail> {
     let alloc = rt.alloc();
     let mesh = kite(alloc)?;
-    let a = adapted(&rt, alloc, mesh, 40, 2)?;
-    assert_eq!(rt; a.journal.len(), 40);
+    let a = adapted(&rt, alloc, mesh, 4, 2)?;
+    assert_eq!(rt; a.journal.len(), 4);
     assert!(rt; !is_quiet(&a.rest));
     Ok(())
 }

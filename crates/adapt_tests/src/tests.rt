@@ -8,6 +8,7 @@ use std::process::Abort;
 use std::test::Fail;
 use std::thread::Threads;
 
+mod chunks;
 mod gates;
 mod grids;
 

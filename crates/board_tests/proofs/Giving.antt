@@ -1,22 +1,22 @@
 -- Nodes that a seat gives back.
-use Rattle.std.proofs.Common.{◌≡◌, ◌≢◌, ℕ, ◌+◌, ◌≤◌, Bool, true, false, cond, ◌==◌, List, [], ◌∷◌, length, map, refl, sym, ap, ◌∙◌, subst, ◌⊎◌, inl, inr, arith}
+use Rattle.std.proofs.Common.{◌≡◌, ◌≢◌, ℕ, Bool, true, false, cond, ◌==◌, List, [], ◌∷◌, length, refl, sym, ap, ◌∙◌, subst, inl, inr, arith}
 use Rattle.std.specs.Prelude.{Option, Some, None}
 use Rattle.pf_model.specs.Stars.{Star, star_of}
 use Rattle.pf_star_model.specs.Lent.{Held}
 use Rattle.pf_core_model.specs.declared.sharer.Sharer.{Sharer}
 use Rattle.pf_core_model.specs.declared.view.View.{View}
-use Rattle.pf_core_model.specs.Lists.{In, times}
+use Rattle.pf_core_model.specs.Lists.{In}
 use Rattle.pf_core_model.specs.Sharers.{sharers_in, kept_in}
 use Rattle.pf_core_model.specs.Moves.{released, without}
-use Rattle.pf_core_model.specs.Core.{Opening, nodes_in, nodes_of}
+use Rattle.pf_core_model.specs.Core.{Opening, nodes_of}
 use Rattle.pf_core_model.specs.Seats.{Knows}
-use Rattle.pf_core_model.proofs.Lists.{in_map, in_mapped, times_in, in_times}
+use Rattle.pf_core_model.proofs.Lists.{in_mapped, times_in, in_times}
 use Rattle.pf_core_model.proofs.Sharing.{none_due, kept_is, star_shared}
 use Rattle.pf_locks.specs.declared.kept.Kept.{Kept}
 use Rattle.pf_locks.specs.Lists.{names_in, list_in, lent_in}
 use Rattle.pf_locks.specs.Seats.{IsShaped}
 use Rattle.board_tests.specs.Holding.{PaidBy}
-use Rattle.board_tests.proofs.Lending.{same, met, unmet}
+use Rattle.board_tests.proofs.Lending.{unmet}
 
 -- a node that is kept is held
 pub node_held : (n : ℕ) (hand : List (ℕ × List Sharer)) (held : List ℕ) (ks : List Kept) (cap : ℕ) → IsShaped hand held ks cap → In n (names_in ks) → In n held

@@ -1,5 +1,5 @@
 -- What a seat lends while it takes nodes.
-use Rattle.std.proofs.Common.{◌≡◌, ◌≢◌, ℕ, suc, ◌+◌, ◌<◌, ◌≤◌, Bool, true, false, cond, ◌==◌, List, [], ◌∷◌, length, map, refl, sym, ap, ◌∙◌, subst, ◌⊎◌, inl, inr, ⊎_elim, arith}
+use Rattle.std.proofs.Common.{◌≡◌, ◌≢◌, ℕ, Bool, true, false, cond, ◌==◌, List, [], ◌∷◌, length, refl, sym, ap, ◌∙◌, subst, ◌⊎◌, inl, inr, ⊎_elim, arith}
 use Rattle.std.specs.Prelude.{Option, Some, None, is_some, ◌||◌, slice_index}
 use Rattle.std.proofs.lemmas.Bool.Decides.{nat_tests}
 use Rattle.pf_model.specs.Stars.{Star}
@@ -18,7 +18,7 @@ use Rattle.pf_locks.specs.declared.kept.Kept.{Kept}
 use Rattle.pf_locks.specs.declared.seat.BoardSeat.{BoardSeat}
 use Rattle.pf_locks.specs.Lists.{list_in, lent_in, names_in}
 use Rattle.pf_locks.specs.Seats.{TellsTry, TellsNote, KeepsLists, IsShaped, IsSeat}
-use Rattle.board_tests.specs.Holding.{PaidBy, LentBy, IsPaid, IsLending, is_kept}
+use Rattle.board_tests.specs.Holding.{LentBy, IsLending, is_kept}
 
 pub same : (n : ℕ) → (n == n) ≡ true
 same n = grind (arith, nat_tests)

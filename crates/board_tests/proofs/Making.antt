@@ -1,19 +1,17 @@
 -- Operations that a seat makes: what is prepared for them, and that each list is due once it is put.
-use Rattle.std.proofs.Common.{◌≡◌, ◌≢◌, ℕ, ◌+◌, ◌<◌, ◌≤◌, Bool, true, false, cond, ◌==◌, ◌||◌, ◌&&◌, List, [], ◌∷◌, ◌++◌, length, map, refl, sym, ap, ◌∙◌, subst, ◌⊎◌, inl, inr, ⊎_elim, arith}
-use Rattle.std.specs.Prelude.{Option, Some, None, Contains, is_some, not, fold}
+use Rattle.std.proofs.Common.{◌≡◌, ◌≢◌, ℕ, ◌+◌, ◌≤◌, Bool, true, false, cond, ◌==◌, ◌||◌, ◌&&◌, List, [], ◌∷◌, ◌++◌, length, map, refl, sym, ap, ◌∙◌, subst, ◌⊎◌, inl, inr, ⊎_elim, arith}
+use Rattle.std.specs.Prelude.{Option, Some, None, Contains, is_some, not}
 use Rattle.std.specs.Option.{option_map}
 use Rattle.std.specs.List.{list_all}
 use mathlib.Core.Logic.{dite}
 use native.Mathlib.Decide.{ℕ_discrete}
-use Rattle.pf_model.specs.declared.Band.{Band}
 use Rattle.pf_model.specs.declared.Op.{Op}
 use Rattle.pf_model.specs.declared.Op.TheVariants.{Flip, Bisect, Contract}
 use Rattle.pf_model.specs.declared.Cond.{Cond}
 use Rattle.pf_model.specs.declared.Entry.{Entry}
 use Rattle.pf_model.specs.Rising.{AreDifferent}
 use Rattle.pf_model.specs.Mesh.{Undivided, point_of, place_of as point_or}
-use Rattle.pf_model.specs.Conforming.{IsConforming, IsLive}
-use Rattle.pf_model.specs.Conditions.{first_failing, least_that}
+use Rattle.pf_model.specs.Conforming.{IsLive}
 use Rattle.pf_model.specs.Applied.{applied}
 use Rattle.pf_model.specs.Ends.{first_end, second_end}
 use Rattle.pf_model.specs.Stars.{Star, star_of, spokes_of}
@@ -27,7 +25,6 @@ use Rattle.pf_star_model.specs.Patched.{patch_of, made_by, renamed, renamed_star
 use Rattle.pf_star_model.specs.Laws.{CanApply, AreEndsShown, IsPatch}
 use Rattle.pf_star_model.proofs.Operations.{patch_is_whole, outside_stays}
 use Rattle.pf_star_model.proofs.Renames.{patch_is_renamed}
-use Rattle.pf_cavity.specs.declared.answer.Need.{Need}
 use Rattle.pf_cavity.specs.declared.answer.Need.TheVariants.{Hold, Whole}
 use Rattle.pf_cavity.specs.Need.{need_of}
 use Rattle.pf_core_model.specs.declared.sharer.Sharer.{Sharer}
@@ -36,22 +33,21 @@ use Rattle.pf_core_model.specs.Lists.{In}
 use Rattle.pf_core_model.specs.Cavity.{makes_node, makes, is_made}
 use Rattle.pf_core_model.specs.Sharers.{sharers_in}
 use Rattle.pf_core_model.specs.Moves.{committed, unborn_by, made_list}
-use Rattle.pf_core_model.specs.Core.{Opening, names_of, nodes_in, nodes_of}
-use Rattle.pf_core_model.specs.Guards.{IsMeshOf, IsJudged, HoldsCavity}
-use Rattle.pf_core_model.specs.Guards.{IsPatch as IsSeatPatch}
+use Rattle.pf_core_model.specs.Core.{Opening, nodes_in, nodes_of}
+use Rattle.pf_core_model.specs.Guards.{IsMeshOf, IsJudged}
 use Rattle.pf_core_model.specs.Seats.{Knows}
 use Rattle.pf_core_model.proofs.Born.{in_contains}
 use Rattle.pf_core_model.proofs.Lists.{in_map, in_mapped, in_either}
 use Rattle.pf_core_model.proofs.Replays.{and_left, or_cases}
 use Rattle.pf_core_model.proofs.Told.{live_known}
 use Rattle.pf_core_model.proofs.Sharing.{none_due}
-use Rattle.pf_board_steps.specs.Plays.{CanMake, Makes, at_ticket, fresh_at}
+use Rattle.pf_board_steps.specs.Plays.{CanMake, Makes, fresh_at}
 use Rattle.pf_board_steps.proofs.Guards.{made_patch, seen_judged}
 use Rattle.pf_ghost.specs.declared.ready.Listed.{Listed}
 use Rattle.pf_ghost.specs.Prepared.{ready_of}
 use Rattle.pf_ghost.specs.Spread.{later_name, place_of, named_list, spread_at, SpreadPutsDue}
 use Rattle.pf_holder.specs.Prepared.{fresh_of, IsReady}
-use Rattle.pf_holder.proofs.Held.{held_shown, end_within, lent_held, has_in, in_has}
+use Rattle.pf_holder.proofs.Held.{held_shown, end_within, lent_held, in_has}
 use Rattle.pf_holder.proofs.Patches.{rising_apart}
 use Rattle.pf_locks.specs.declared.kept.Kept.{Kept}
 use Rattle.pf_locks.specs.declared.seat.BoardSeat.{BoardSeat}

@@ -1,20 +1,17 @@
 //! Nodes held, operations made and nodes given back by calls of the board alone. What a call asks for is looked
 //! up in the seat where it can be.
 ghost use Rattle.std.specs.Prelude.{◌≡◌, ◌≢◌, ℕ, ◌+◌, ◌≤◌, length, true, is_some, Some, None, IfOk, IfSome};
-ghost use Rattle.std.specs.Option.{option_map};
 ghost use Rattle.pf_model.specs.Applied.{IsFresh};
 ghost use Rattle.pf_model.specs.declared.Op.TheVariants.{Bisect, Contract};
 ghost use Rattle.pf_star_model.specs.Judged.{judged};
-ghost use Rattle.pf_core_model.specs.Lists.{In};
 ghost use Rattle.pf_core_model.specs.Cavity as cavity;
-ghost use Rattle.pf_core_model.specs.Core.{nodes_of};
 ghost use Rattle.pf_core_model.specs.Sharers.{sharers_in};
 ghost use Rattle.pf_core_model.specs.Guards.{IsJudged};
 ghost use Rattle.pf_board_steps.specs.Plays.{CanMake};
 ghost use Rattle.pf_holder.specs.Prepared.{IsReady};
 ghost use Rattle.pf_ghost.specs.Prepared.{ready_of};
 ghost use Rattle.pf_ghost.specs.Spread.{spread_at};
-ghost use Rattle.pf_locks.specs.Lists.{names_in, list_in, lent_in};
+ghost use Rattle.pf_locks.specs.Lists.{list_in, lent_in};
 ghost use Rattle.pf_locks.specs.Seats.{IsSeat, flag_at};
 ghost use Rattle.board_tests.specs.Holding.{IsPaid, IsLending, is_kept, put_at};
 

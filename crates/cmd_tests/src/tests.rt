@@ -310,22 +310,28 @@ fn a_sink_that_fails_ends_the_run_with_4(rt: HostRuntime) -> Result<(), Fail> {
 }
 
 #[test]
-fn options_stand_behind_the_plain_words_each_at_most_once(rt: HostRuntime) -> Result<(), Fail> {
+fn options_stand_anywhere_each_at_most_once(rt: HostRuntime) -> Result<(), Fail> {
     let mut shelf = kite(rt.alloc(), KITE_FLIP, Vec::new(rt.alloc()))?;
     let said = b"parfum: words refused\n";
     for words in [
         ["check", "k", "--scale", "2", "--scale", "2"].as_slice(),
-        &["check", "--scale", "2", "k"],
         &["check", "k", "--scale"],
-        &["check", "k", "--scale=2"],
+        &["check", "k", "--scale=+2"],
         &["check", "k", "--scale", "+2"],
         &["check", "k", "--scales", "2"],
-        &["check", "-"],
     ] {
         assert_run(&rt, words, &mut shelf, 2, said)?;
     }
     let said = b"nodes 4\ntriangles 2\narea2 128\neuler 1\nboundary 4\nchunks 1\n";
-    assert_run(&rt, &["check", "k", "--scale", "002"], &mut shelf, 0, said)
+    for words in [
+        ["check", "k", "--scale", "002"].as_slice(),
+        &["check", "k", "--scale=2"],
+        &["check", "--scale", "2", "k"],
+        &["check", "--scale=2", "--", "k"],
+    ] {
+        assert_run(&rt, words, &mut shelf, 0, said)?;
+    }
+    Ok(())
 }
 
 // A slanted grid of SIDE by SIDE cells, each cut by its longer diagonal, and the same grid with all diagonals flipped.

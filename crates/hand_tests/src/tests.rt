@@ -1,7 +1,6 @@
 //! Hands on the square of two triangles.
-ghost use Rattle.std.specs.Prelude.{◌≡◌, ◌≢◌, ℕ, ◌+◌, ◌≤◌, [], true, None, IfOk, IfSome};
+ghost use Rattle.std.specs.Prelude.{◌≡◌, ◌≢◌, ℕ, ◌≤◌, [], true, None, IfOk, IfSome};
 ghost use Rattle.pf_model.specs.Applied.{IsFresh};
-ghost use Rattle.pf_star_model.specs.Lent.{star_held};
 ghost use Rattle.pf_holder.specs.Facts.{LendsAll};
 ghost use Rattle.pf_locks.specs.Seats.{flag_at};
 ghost use Rattle.hand_tests.specs.Rest.{IsAtRest};
@@ -17,6 +16,8 @@ use pf_model::{Cond, Entry, Op};
 use std::alloc::Global;
 use std::process::Abort;
 use std::test::Fail;
+
+mod turns;
 
 // Two triangles on the edge from 0 to 2.
 const CORNERS: [Point; 4] = [

@@ -1,9 +1,6 @@
 -- What a mesh, its history and its parts are to one who began with the mesh.
-use Rattle.std.proofs.Common.{◌≡◌, ◌≤◌, ◌<◌, ℕ, List, length, sym, ap, subst, arith}
-use Rattle.std.specs.Prelude.{All, slice_index_or}
-use Rattle.std.specs.List.{range_with_len}
-use Rattle.std.proofs.lemmas.List.Elements.{All-filter}
-use Rattle.std.proofs.lemmas.List.FromFn.{length-range_with_len, get_or-range_with_len}
+use Rattle.std.proofs.Common.{◌≡◌, ◌∙◌, ◌≤◌, ◌<◌, ℕ, List, length, sym, ap, subst, arith}
+use Rattle.std.specs.Prelude.{slice_index_or}
 use Rattle.pf_model.specs.declared.Entry.{Entry}
 use Rattle.pf_model.specs.Mesh.{Undivided}
 use Rattle.pf_core_model.specs.Core.{Opening, mesh_after}
@@ -13,21 +10,9 @@ use Rattle.pf_locks.specs.declared.seat.BoardSeat.{BoardSeat}
 use Rattle.pf_locks.specs.Seats.{IsSeat}
 use Rattle.pf_workers.specs.declared.parts.Part.{Part}
 use Rattle.pf_workers.specs.Parts.{chunks_for, starts_for}
-use Rattle.pf_workers.specs.Jobs.{IsPartOf}
+use Rattle.pf_workers.specs.Jobs.{IsPartFor}
 use Rattle.pf_adapt.specs.Adapted.{HasEnded, IsAdapted}
 use Rattle.pf_adapt.proofs.Owned.{legal-owned}
-
-below : (n : ℕ) → All (λ k. k < n) (range_with_len 0 n)
-below n k d low = let l = length-range_with_len 0 n in let near : k < n = omega (arith, l, low) in let at = get_or-range_with_len 0 n k d near in omega (arith, at, near)
-
--- the part of a worker is one of the mesh
-pub part_of : (m o : Undivided) (part : Part) (workers w : ℕ) → o ≡ m → part.chunks.items ≡ chunks_for workers w m.chunks → part.start.items ≡ starts_for m workers w → IsPartOf o part
-part_of m o part workers w same chunks start =
-    subst (λ (x : Undivided). IsPartOf x part) (sym same)
-    (record {
-      chunks = subst (λ (l : List ℕ). All (λ c. c < m.chunks) l) (sym chunks) (All-filter _ (λ c. c < m.chunks) (range_with_len 0 m.chunks) (below m.chunks));
-      start = subst (λ (l : List ℕ). All (λ n. n < m.first_new) l) (sym start) (All-filter _ (λ n. n < m.first_new) (range_with_len 0 m.first_new) (below m.first_new));
-    })
 
 -- the journal is the history of a seat that is alone, and ended
 pub adapted-by : (o : Opening) (m : Undivided) (budget : ℕ) (s : BoardSeat) (journal : List Entry) → o.mesh ≡ m → o.budget ≡ budget → IsSeat o s → IsAlone s.seat.me.0 → journal ≡ own_log s.seat.me.0 → HasEnded (mesh_after o (own_log s.seat.me.0)) o.budget (length (own_log s.seat.me.0)) → IsAdapted m budget journal
@@ -43,8 +28,11 @@ adapted-by o m budget s journal same rich seat alone is ended =
     (record { legal = w.legal; within = within; owned = legal-owned 0 o.mesh log w.legal; ended = ended })))
 
 -- the parts of all workers
-pub parts_are : (m o : Undivided) (workers : ℕ) (parts now : List Part) → o ≡ m → now ≡ parts → length parts ≡ workers → ((w : ℕ) (d : Part) → w < workers → (slice_index_or parts w d).chunks.items ≡ chunks_for workers w m.chunks) → ((w : ℕ) (d : Part) → w < workers → (slice_index_or parts w d).start.items ≡ starts_for m workers w) → (w : ℕ) (d : Part) → w < length now → IsPartOf o (slice_index_or now w d)
+pub parts_are : (m o : Undivided) (workers : ℕ) (parts now : List Part) → o ≡ m → now ≡ parts → length parts ≡ workers → ((w : ℕ) (d : Part) → w < workers → (slice_index_or parts w d).chunks.items ≡ chunks_for workers w m.chunks) → ((w : ℕ) (d : Part) → w < workers → (slice_index_or parts w d).start.items ≡ starts_for m workers w) → (w : ℕ) (d : Part) → w < length now → IsPartFor o (length now) w (slice_index_or now w d)
 parts_are m o workers parts now same is long chunks start w d low =
-    let l = ap (λ (x : List Part). length x) is in
-    let near : w < workers = omega (arith, l, long, low) in
-    subst (λ (x : List Part). IsPartOf o (slice_index_or x w d)) (sym is) (part_of m o (slice_index_or parts w d) workers w same (chunks w d near) (start w d near))
+    let l = ap (λ (x : List Part). length x) is ∙ long in
+    let near : w < workers = omega (arith, l, low) in
+    subst (λ (x : List Part). IsPartFor o (length now) w (slice_index_or x w d)) (sym is)
+    (subst (λ (x : Undivided). IsPartFor x (length now) w (slice_index_or parts w d)) (sym same)
+    (subst (λ (n : ℕ). IsPartFor m n w (slice_index_or parts w d)) (sym l)
+    (record { chunks = chunks w d near; start = start w d near })))

@@ -7,7 +7,7 @@ use Rattle.pf_locks.specs.declared.seat.BoardSeat.{BoardSeat}
 use Rattle.pf_locks.specs.Seats.{IsSeat}
 use Rattle.pf_hand.specs.declared.hand.Hand.{Hand}
 use Rattle.pf_workers.specs.declared.jobs.Job.{Job}
-use Rattle.pf_workers.specs.Jobs.{IsPartOf}
+use Rattle.pf_workers.specs.Jobs.{IsPartFor}
 use Rattle.pf_adapt.specs.Crew.{IsNumbered}
 use Rattle.pf_adapt.proofs.Places.{AtEach, front_each, last_each, more_each}
 use Rattle.pf_adapt.proofs.Joining.{IsJoined, joined_first, joined_next}
@@ -19,7 +19,7 @@ module _ (board : Board) where
 
   -- the job at a place, of so many, from the greatest number down
   abbrev pub IsJobAt : ℕ → ℕ → Job Hand → Type 0
-  IsJobAt many k j = (j.hand.board.now ≡ board) × IsNumbered board.table.shared.table_id board.table.shared.key (many - 1 - k) j.hand.seat × IsPartOf board.table.shared.key.mesh j.part.now
+  IsJobAt many k j = (j.hand.board.now ≡ board) × IsNumbered board.table.shared.table_id board.table.shared.key (many - 1 - k) j.hand.seat × (j.worker ≡ many - 1 - k) × IsPartFor board.table.shared.key.mesh many (many - 1 - k) j.part.now
 
   -- while the jobs are made
   abbrev pub AreMade : ℕ → List BoardSeat → List (Job Hand) → Type 0
@@ -51,28 +51,31 @@ module _ (board : Board) where
       let e = h.0 in
       omega (arith, n, l, e)
 
-  pub made_next : (many : ℕ) (old left : List BoardSeat) (jobs jobs' : List (Job Hand)) (s : BoardSeat) (j : Job Hand) → AreMade many old jobs → old ≡ left ++ s ∷ [] → jobs' ≡ jobs ++ j ∷ [] → j.hand.board.now ≡ board → j.hand.seat ≡ s → IsPartOf board.table.shared.key.mesh j.part.now → AreMade many left jobs'
-  made_next many old left jobs jobs' s j h is put on seat part =
+  pub made_next : (many : ℕ) (old left : List BoardSeat) (jobs jobs' : List (Job Hand)) (s : BoardSeat) (j : Job Hand) → AreMade many old jobs → old ≡ left ++ s ∷ [] → jobs' ≡ jobs ++ j ∷ [] → j.hand.board.now ≡ board → j.hand.seat ≡ s → j.worker ≡ s.number → IsPartFor board.table.shared.key.mesh many s.number j.part.now → AreMade many left jobs'
+  made_next many old left jobs jobs' s j h is put on seat worker part =
       let l = longer left old s is in
       let l' = longer jobs jobs' j put in
       let e = h.0 in
       let place : length left + 1 ≡ many - 1 - length jobs = omega (arith, l, e) in
+      let own : s.number ≡ many - 1 - length jobs = numbered (length left + 1) s (waits many old left jobs s h is) ∙ place in
       let number : IsNumbered board.table.shared.table_id board.table.shared.key (many - 1 - length jobs) s = subst (λ (w : ℕ). IsNumbered board.table.shared.table_id board.table.shared.key w s) place (waits many old left jobs s h is) in
-      let job : IsJobAt many (length jobs) j = (on, subst (λ (x : BoardSeat). IsNumbered board.table.shared.table_id board.table.shared.key (many - 1 - length jobs) x) (sym seat) number, part) in (
+      let job : IsJobAt many (length jobs) j = (on, subst (λ (x : BoardSeat). IsNumbered board.table.shared.table_id board.table.shared.key (many - 1 - length jobs) x) (sym seat) number, worker ∙ own, subst (λ (w : ℕ). IsPartFor board.table.shared.key.mesh many w j.part.now) own part) in (
         (let w : length left + length jobs' + 1 ≡ many = omega (arith, l, l', e) in w),
         front_each IsWaiting left s (subst (λ (x : List BoardSeat). AtEach x IsWaiting) is h.1),
         subst (λ (x : List (Job Hand)). AtEach x (IsJobAt many)) (sym put) (more_each (IsJobAt many) jobs j h.2 job),
       )
 
-  pub made_last : (many : ℕ) (left : List BoardSeat) (jobs jobs' : List (Job Hand)) (s : BoardSeat) (j : Job Hand) → AreMade many left jobs → length left ≡ 0 → IsNumbered board.table.shared.table_id board.table.shared.key 0 s → jobs' ≡ jobs ++ j ∷ [] → j.hand.board.now ≡ board → j.hand.seat ≡ s → IsPartOf board.table.shared.key.mesh j.part.now → (length jobs' ≡ many) × AtEach jobs' (IsJobAt many)
-  made_last many left jobs jobs' s j h none first put on seat part =
+  pub made_last : (many : ℕ) (left : List BoardSeat) (jobs jobs' : List (Job Hand)) (s : BoardSeat) (j : Job Hand) → AreMade many left jobs → length left ≡ 0 → IsNumbered board.table.shared.table_id board.table.shared.key 0 s → jobs' ≡ jobs ++ j ∷ [] → j.hand.board.now ≡ board → j.hand.seat ≡ s → j.worker ≡ s.number → IsPartFor board.table.shared.key.mesh many s.number j.part.now → (length jobs' ≡ many) × AtEach jobs' (IsJobAt (length jobs'))
+  made_last many left jobs jobs' s j h none first put on seat worker part =
       let l' = longer jobs jobs' j put in
       let e = h.0 in
       let place : 0 ≡ many - 1 - length jobs = omega (arith, none, e) in
+      let own : s.number ≡ many - 1 - length jobs = numbered 0 s first ∙ place in
+      let all : length jobs' ≡ many = omega (arith, none, l', e) in
       let number : IsNumbered board.table.shared.table_id board.table.shared.key (many - 1 - length jobs) s = subst (λ (w : ℕ). IsNumbered board.table.shared.table_id board.table.shared.key w s) place first in
-      let job : IsJobAt many (length jobs) j = (on, subst (λ (x : BoardSeat). IsNumbered board.table.shared.table_id board.table.shared.key (many - 1 - length jobs) x) (sym seat) number, part) in (
-        (let w : length jobs' ≡ many = omega (arith, none, l', e) in w),
-        subst (λ (x : List (Job Hand)). AtEach x (IsJobAt many)) (sym put) (more_each (IsJobAt many) jobs j h.2 job),
+      let job : IsJobAt many (length jobs) j = (on, subst (λ (x : BoardSeat). IsNumbered board.table.shared.table_id board.table.shared.key (many - 1 - length jobs) x) (sym seat) number, worker ∙ own, subst (λ (w : ℕ). IsPartFor board.table.shared.key.mesh many w j.part.now) own part) in (
+        all,
+        subst (λ (n : ℕ). AtEach jobs' (IsJobAt n)) (sym all) (subst (λ (x : List (Job Hand)). AtEach x (IsJobAt many)) (sym put) (more_each (IsJobAt many) jobs j h.2 job)),
       )
 
   -- the job that is taken back next

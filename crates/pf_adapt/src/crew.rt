@@ -2,8 +2,8 @@
 ghost use Rattle.std.specs.Prelude.{◌≡◌, ℕ, ◌+◌, ◌-◌, ◌<◌, ◌≤◌, [], ◌∷◌, None, length, slice_index_or, IfOk};
 ghost use Rattle.std.specs.List.{list_any};
 ghost use Rattle.pf_locks.specs.Seats.{IsSeat};
-ghost use Rattle.pf_workers.specs.Crew.{IsFirst, IsWorker};
-ghost use Rattle.pf_workers.specs.Jobs.{IsPartOf};
+ghost use Rattle.pf_workers.specs.Crew.{IsFirst};
+ghost use Rattle.pf_workers.specs.Jobs.{IsPartFor};
 ghost use Rattle.pf_adapt.specs.Crew as spec;
 ghost use Rattle.pf_adapt.specs.Crew.{IsNumbered, IsLone};
 
@@ -15,17 +15,18 @@ use pf_workers::{Job, Part, drive_all, split_seats};
 use std::alloc::Global;
 use std::thread::Threads;
 
-// A seat in a hand, with the part of its worker.
+// A seat in a hand, with the number and the part of its worker.
 fn job_of<'a>(board: &'a Board, seat: BoardSeat, parts: &'a [Part]) -> Job<'a, Hand<'a>>
     requires board { seat.seat.table_id ≡ board.now.table.shared.table_id }
     requires seat { IsSeat board.now.table.shared.key seat }
     requires nothing { seat.seat.me.0.held ≡ [] }
     requires clear { seat.seat.me.0.unborn ≡ None }
     requires number { seat.number < length parts.now }
-    requires parts { (w : ℕ) (d : _) → w < length parts.now → IsPartOf board.now.table.shared.key.mesh (slice_index_or parts.now w d) }
+    requires parts { (w : ℕ) (d : _) → w < length parts.now → IsPartFor board.now.table.shared.key.mesh (length parts.now) w (slice_index_or parts.now w d) }
     ensures board { result.hand.board.now ≡ board.entry.now }
     ensures seat { result.hand.seat ≡ seat }
-    ensures part { IsPartOf board.entry.now.table.shared.key.mesh result.part.now }
+    ensures worker { result.worker ≡ seat.number }
+    ensures part { IsPartFor board.entry.now.table.shared.key.mesh (length parts.entry.now) seat.number result.part.now }
 {
     let worker = seat.number;
     Job {
@@ -36,7 +37,7 @@ fn job_of<'a>(board: &'a Board, seat: BoardSeat, parts: &'a [Part]) -> Job<'a, H
     }
 }
 
-// The jobs of all workers, that of the greatest number first.
+// The jobs of all workers, that of the greatest number first, each with its own worker's part.
 fn jobs_of<'a>(
     alloc: Global,
     board: &'a Board,
@@ -47,11 +48,12 @@ fn jobs_of<'a>(
     requires first { IsNumbered board.now.table.shared.table_id board.now.table.shared.key 0 first }
     requires others { (k : ℕ) (d : _) → k < length others.items → IsNumbered board.now.table.shared.table_id board.now.table.shared.key (k + 1) (slice_index_or others.items k d) }
     requires many { length others.items + 1 ≡ length parts.now }
-    requires parts { (w : ℕ) (d : _) → w < length parts.now → IsPartOf board.now.table.shared.key.mesh (slice_index_or parts.now w d) }
+    requires parts { (w : ℕ) (d : _) → w < length parts.now → IsPartFor board.now.table.shared.key.mesh (length parts.now) w (slice_index_or parts.now w d) }
     ensures len { IfOk result (λ v. length v.items ≡ length parts.entry.now) }
     ensures board { IfOk result (λ v. (k : ℕ) (d : _) → k < length v.items → (slice_index_or v.items k d).hand.board.now ≡ board.entry.now) }
     ensures seat { IfOk result (λ v. (k : ℕ) (d : _) → k < length v.items → IsNumbered board.entry.now.table.shared.table_id board.entry.now.table.shared.key (length v.items - 1 - k) (slice_index_or v.items k d).hand.seat) }
-    ensures part { IfOk result (λ v. (k : ℕ) (d : _) → k < length v.items → IsPartOf board.entry.now.table.shared.key.mesh (slice_index_or v.items k d).part.now) }
+    ensures worker { IfOk result (λ v. (k : ℕ) (d : _) → k < length v.items → (slice_index_or v.items k d).worker ≡ length v.items - 1 - k) }
+    ensures part { IfOk result (λ v. (k : ℕ) (d : _) → k < length v.items → IsPartFor board.entry.now.table.shared.key.mesh (length v.items) (length v.items - 1 - k) (slice_index_or v.items k d).part.now) }
 {
     let mut left = others;
     let mut jobs = Vec::new(alloc);
@@ -137,7 +139,7 @@ fn crew_driven<R: Threads + Sync, G: Gate + Sync>(
     requires others { (k : ℕ) (d : _) → k < length others.items → IsNumbered board.now.table.shared.table_id board.now.table.shared.key (k + 1) (slice_index_or others.items k d) }
     requires many { length others.items + 1 ≡ length parts.now }
     requires all { board.now.table.shared.key.workers ≡ length parts.now }
-    requires parts { (w : ℕ) (d : _) → w < length parts.now → IsPartOf board.now.table.shared.key.mesh (slice_index_or parts.now w d) }
+    requires parts { (w : ℕ) (d : _) → w < length parts.now → IsPartFor board.now.table.shared.key.mesh (length parts.now) w (slice_index_or parts.now w d) }
     ensures { IfOk result (λ s. IsLone board.now.table.shared.table_id board.now.table.shared.key s) }
 {
     let mut jobs = jobs_of(alloc, board, first, others, parts)?;
@@ -166,7 +168,7 @@ pub(crate) fn turns_made<R: Threads + Sync, G: Gate + Sync>(
     requires all { board.now.table.shared.key.workers ≡ workers }
     requires seat { IsFirst board.now.table.shared.table_id board.now.table.shared.key budget workers 1 seat }
     requires many { length parts.now ≡ workers }
-    requires parts { (w : ℕ) (d : _) → w < length parts.now → IsPartOf board.now.table.shared.key.mesh (slice_index_or parts.now w d) }
+    requires parts { (w : ℕ) (d : _) → w < length parts.now → IsPartFor board.now.table.shared.key.mesh (length parts.now) w (slice_index_or parts.now w d) }
     ensures { IfOk result (λ s. IsLone board.now.table.shared.table_id board.now.table.shared.key s) }
 {
     let mut first = seat;

@@ -19,7 +19,8 @@ use Rattle.pf_star_model.proofs.Assembled.{sites-same, tris-same}
 use Rattle.pf_star.specs.declared.copies.ChunkCopy.{ChunkCopy}
 use Rattle.pf_star.specs.declared.copies.Copies.{Copies}
 use Rattle.pf_locks.specs.Closes.{AreCopiesOf, shown_copy}
-use Rattle.pf_assemble.specs.Whole.{is_least, tri_from, tris_from, kept_sites, kept_tris}
+use Rattle.pf_locks.specs.Ends.{is_least, tri_from, tris_from}
+use Rattle.pf_assemble.specs.Whole.{kept_sites, kept_tris}
 use Rattle.pf_assemble.proofs.Loops.{picked}
 use Rattle.pf_assemble.proofs.Sorts.{AreTests}
 

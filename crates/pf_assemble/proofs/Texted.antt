@@ -1,5 +1,5 @@
 -- The chunk list of a mesh by its stars and triangles.
-use Rattle.std.proofs.Common.{◌≡◌, ◌∙◌, ℕ, List, [], ◌∷◌, ◌++◌, flat_map, ap, refl, sym, subst, length, append_assoc, Option, Some, Bool, true, false, cond}
+use Rattle.std.proofs.Common.{◌≡◌, ◌∙◌, ℕ, List, [], ◌∷◌, ◌++◌, flat_map, ap, refl, sym, subst, length, append_assoc, Option, Some}
 use Rattle.std.specs.Prelude.{filter, map, filter_map, decimal}
 use Rattle.std.specs.List.{join_with_byte, range_with_len}
 use Rattle.std.specs.Option.{option_map}
@@ -7,15 +7,11 @@ use Rattle.std.proofs.lemmas.List.Concat.{flat_map-append}
 use Rattle.std.proofs.lemmas.List.Elements.{filter_map-append}
 use Rattle.std.proofs.lemmas.List.Folds.{flat_map-map}
 use Rattle.pf_model.specs.declared.Site.{Site}
-use Rattle.pf_model.specs.declared.Tri.{Tri}
 use Rattle.pf_model.specs.Mesh.{Undivided}
 use Rattle.pf_model.specs.Stars.{Star, star_of}
 use Rattle.pf_model.specs.Texts.{line_text, lines_text}
 use Rattle.pf_star_model.specs.Copies.{Copy, due_copy, copies_at, copies_of}
-use Rattle.pf_star.specs.declared.copies.ChunkCopy.{ChunkCopy}
-use Rattle.pf_assemble.specs.declared.lines.Counts.{Counts}
-use Rattle.pf_assemble.specs.ChunkList.{is_ghost, owned_by, ghosts_at, is_shared_by_others, shared_words, ghost_words, chunk_lines_at, chunk_list_of}
-use Rattle.pf_locks.specs.Closes.{shown_copy}
+use Rattle.pf_assemble.specs.ChunkList.{owned_by, ghosts_at, is_shared_by_others, shared_words, ghost_words, chunk_lines_at, chunk_list_of}
 use Rattle.pf_assemble.specs.Divided.{copies_in}
 use Rattle.pf_assemble.specs.Listed.{shared_in, counts_of, part_text}
 use Rattle.pf_assemble.specs.Spaced.{spaced, counts_words}
@@ -120,26 +116,3 @@ words-round text a b c ds s d e is =
 
     together : (words : List (List ℕ)) → ((first : List ℕ) × (rest : List (List ℕ)) × (words ≡ first ∷ rest)) → text ++ (a ++ 32 ∷ (b ++ 32 ∷ (c ++ 32 ∷ (join_with_byte 32 words ++ 10 ∷ [])))) ≡ text ++ line_text (a ∷ b ∷ c ∷ words)
     together words it = subst (λ ws. text ++ (a ++ 32 ∷ (b ++ 32 ∷ (c ++ 32 ∷ (join_with_byte 32 ws ++ 10 ∷ [])))) ≡ text ++ line_text (a ∷ b ∷ c ∷ ws)) (sym it.2) (spelled (join_with_byte 32 (it.0 ∷ it.1)))
-
--- the lines of a chunk behind a text
-pub part-behind : (text : List ℕ) (stars : List Star) (tris : List Tri) (chunks c : ℕ) (counts : Counts) (items : List ChunkCopy) (ghosts : List Tri)
-    → counts ≡ counts_of stars tris c → map shown_copy items ≡ shared_in c stars → ghosts ≡ filter (is_ghost tris c) tris
-    → text ++ line_text (counts_words c counts) ++ flat_map (λ x. line_text (shared_words chunks c (shown_copy x))) items ++ flat_map (λ t. line_text (ghost_words t)) ghosts ≡ text ++ part_text stars tris chunks c
-part-behind text stars tris chunks c counts items ghosts same kept seen =
-    let f : Copy → List ℕ = λ x. line_text (shared_words chunks c x) in
-    let g : Tri → List ℕ = λ t. line_text (ghost_words t) in
-    append_assoc (text ++ line_text (counts_words c counts)) (flat_map (λ x. f (shown_copy x)) items) (flat_map g ghosts)
-    ∙ (append_assoc text (line_text (counts_words c counts)) (flat_map (λ x. f (shown_copy x)) items ++ flat_map g ghosts)
-    ∙ ap (λ l. text ++ l)
-    (sym (append_assoc (line_text (counts_words c counts)) (flat_map (λ x. f (shown_copy x)) items) (flat_map g ghosts))
-    ∙ λ i. line_text (counts_words c (same i)) ++ (sym (flat_map-map f shown_copy items) ∙ ap (flat_map f) kept) i ++ flat_map g (seen i)))
-
--- a filter of what is shown
-pub shown-filter : (c : ℕ) (items : List ChunkCopy) → map shown_copy (filter (λ x. is_shared_by_others c (shown_copy x)) items) ≡ filter (is_shared_by_others c) (map shown_copy items)
-shown-filter c [] = refl
-shown-filter c (x ∷ xs) = go (is_shared_by_others c (shown_copy x)) (shown-filter c xs)
-  where
-    go : (b : Bool) → map shown_copy (filter (λ x. is_shared_by_others c (shown_copy x)) xs) ≡ filter (is_shared_by_others c) (map shown_copy xs)
-        → map shown_copy (cond b (x ∷ filter (λ x. is_shared_by_others c (shown_copy x)) xs) (filter (λ x. is_shared_by_others c (shown_copy x)) xs)) ≡ cond b (shown_copy x ∷ filter (is_shared_by_others c) (map shown_copy xs)) (filter (is_shared_by_others c) (map shown_copy xs))
-    go true e = ap (λ l. shown_copy x ∷ l) e
-    go false e = e

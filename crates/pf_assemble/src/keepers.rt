@@ -1,13 +1,14 @@
 //! The nodes and the triangles of a mesh, from the copies of their keepers.
-ghost use Rattle.std.specs.Prelude.{◌≡◌, ◌++◌, [], ◌∷◌, IfOk, OnOk, flat_map};
+ghost use Rattle.std.specs.Prelude.{◌≡◌, ◌++◌, IfOk, OnOk, flat_map};
 ghost use Rattle.pf_model.specs.Mesh.{tri_lt};
 ghost use Rattle.pf_model.specs.Rising.{IsRising, sorted_by};
-ghost use Rattle.pf_star_model.specs.Assembled.{is_kept, site_in, site_lt};
+ghost use Rattle.pf_star_model.specs.Assembled.{is_kept, site_lt};
 ghost use Rattle.pf_locks.specs.Closes.{shown_copy};
-ghost use Rattle.pf_assemble.specs.Whole.{is_least, kept_sites, kept_tris, tris_from};
+ghost use Rattle.pf_assemble.specs.Whole.{kept_sites, kept_tris};
 
 use pf_geom::NoMemory;
-use pf_model::{Site, Spoke, Tri};
+use pf_locks::put_star;
+use pf_model::{Site, Tri};
 use pf_rings::least_owner;
 use pf_star::ChunkCopy;
 use std::alloc::Global;
@@ -22,52 +23,13 @@ fn is_kept(copy: &ChunkCopy) -> bool
     }
 }
 
-// Whether the node of a spoke is the least corner of its triangle.
-fn is_least(node: u32, s: Spoke) -> bool
-    ensures { result ≡ is_least node s }
-{
-    node < s.right && node < s.left
-}
-
-// Puts the triangles of these spokes of which their node is the least corner.
-fn put_tris(tris: &mut Vec<Tri>, node: u32, spokes: &[Spoke]) -> Result<(), NoMemory>
-    ensures { OnOk result (tris.new.items ≡ tris.old.items ++ tris_from node spokes.now) }
-{
-    for s in spokes {
-        if is_least(node, *s) {
-            tris.push(Tri {
-                a: node,
-                b: s.right,
-                c: s.left,
-                owner: s.owner,
-            })
-            .map_err(|_| NoMemory)?;
-        }
-    }
-    Ok(())
-}
-
-// Puts the node of a copy.
-fn put_site(sites: &mut Vec<Site>, copy: &ChunkCopy) -> Result<(), NoMemory>
-    ensures { OnOk result (sites.new.items ≡ sites.old.items ++ site_in (shown_copy copy.now) ∷ []) }
-{
-    sites
-        .push(Site {
-            name: copy.star.node(),
-            at: copy.star.at(),
-        })
-        .map_err(|_| NoMemory)?;
-    Ok(())
-}
-
 // Puts what a copy gives of the mesh, where its chunk is the keeper of its node.
 fn put_kept(sites: &mut Vec<Site>, tris: &mut Vec<Tri>, copy: &ChunkCopy) -> Result<(), NoMemory>
     ensures sites { OnOk result (sites.new.items ≡ sites.old.items ++ kept_sites copy.now) }
     ensures tris { OnOk result (tris.new.items ≡ tris.old.items ++ kept_tris copy.now) }
 {
     if is_kept(copy) {
-        put_site(sites, copy)?;
-        put_tris(tris, copy.star.node(), copy.star.spokes())?;
+        put_star(sites, tris, &copy.star)?;
     }
     Ok(())
 }

@@ -7,6 +7,8 @@ mod copies;
 mod ghosts;
 mod keepers;
 mod lines;
+mod lists;
+mod rows;
 mod whole;
 
 pub use chunks::chunk_lines;

@@ -1,15 +1,13 @@
 //! The lines of a chunk list.
-ghost use Rattle.std.specs.Prelude.{◌≡◌, ◌++◌, [], ◌∷◌, OnOk, flat_map, unwrap_or};
-ghost use Rattle.std.specs.List.{range_with_len};
+ghost use Rattle.std.specs.Prelude.{◌≡◌, ◌++◌, OnOk, flat_map, unwrap_or};
 ghost use Rattle.pf_model.specs.Stars.{keeper_in};
 ghost use Rattle.pf_model.specs.Texts.{line_text};
-ghost use Rattle.pf_assemble.specs.ChunkList.{shared_words, ghost_words};
-ghost use Rattle.pf_locks.specs.Closes.{shown_copy};
+ghost use Rattle.pf_assemble.specs.ChunkList.{ghost_words};
+ghost use Rattle.pf_assemble.specs.Placed.{sharing_words};
 ghost use Rattle.pf_assemble.specs.Spaced.{spaced_other, counts_words};
 
 use pf_model::{Spoke, Tri};
-use pf_rings::{has_owner, least_owner};
-use pf_star::ChunkCopy;
+use pf_rings::{Star, least_owner};
 use row_text::{push_number, push_word};
 use std::alloc::AllocError;
 
@@ -25,7 +23,7 @@ pub(crate) struct Counts {
 /// Puts the line of a chunk.
 pub(crate) fn put_chunk_line(
     text: &mut Vec<u8>,
-    chunk: u16,
+    chunk: usize,
     counts: Counts,
 ) -> Result<(), AllocError>
     ensures { OnOk result (text.new.items ≡ text.old.items ++ line_text (counts_words chunk counts)) }
@@ -43,21 +41,21 @@ pub(crate) fn put_chunk_line(
     Ok(())
 }
 
-/// Puts the line of a node that a chunk shares with others.
+/// Puts the line of a node that a chunk shares with others, by all of its chunks.
 pub(crate) fn put_shared_line(
     text: &mut Vec<u8>,
-    copy: &ChunkCopy,
-    chunks: u16,
-    chunk: u16,
+    star: &Star,
+    owners: &[usize],
+    chunk: usize,
 ) -> Result<(), AllocError>
-    ensures { OnOk result (text.new.items ≡ text.old.items ++ line_text (shared_words chunks chunk (shown_copy copy.now))) }
+    ensures { OnOk result (text.new.items ≡ text.old.items ++ line_text (sharing_words owners.now chunk star.now)) }
 {
     push_word(text, b"shared", b' ')?;
-    push_number(text, copy.star.node(), b' ')?;
+    push_number(text, star.node(), b' ')?;
     push_word(text, b"with", b' ')?;
-    put_others(text, copy.star.spokes(), chunks, chunk)?;
+    put_others(text, owners, chunk)?;
     push_word(text, b"keeper", b' ')?;
-    push_number(text, keeper_of(copy.star.spokes()), b'\n')?;
+    push_number(text, keeper_of(star.spokes()), b'\n')?;
     Ok(())
 }
 
@@ -71,26 +69,21 @@ fn keeper_of(spokes: &[Spoke]) -> u16
     }
 }
 
-// Puts the other chunks that share a node with these spokes, each with a space behind it.
-fn put_others(
-    text: &mut Vec<u8>,
-    spokes: &[Spoke],
-    chunks: u16,
-    chunk: u16,
-) -> Result<(), AllocError>
-    ensures { OnOk result (text.new.items ≡ text.old.items ++ flat_map (spaced_other chunk spokes.now) (range_with_len 0 chunks)) }
+// Puts the chunks but this one, each with a space behind it.
+fn put_others(text: &mut Vec<u8>, owners: &[usize], chunk: usize) -> Result<(), AllocError>
+    ensures { OnOk result (text.new.items ≡ text.old.items ++ flat_map (spaced_other chunk) owners.now) }
 {
-    for other in 0..chunks {
-        put_other(text, spokes, other, chunk)?;
+    for other in owners {
+        put_other(text, *other, chunk)?;
     }
     Ok(())
 }
 
-// Puts a chunk, where it is another that shares the node.
-fn put_other(text: &mut Vec<u8>, spokes: &[Spoke], other: u16, chunk: u16) -> Result<(), AllocError>
-    ensures { OnOk result (text.new.items ≡ text.old.items ++ spaced_other chunk spokes.now other) }
+// Puts a chunk, where it isn't this one.
+fn put_other(text: &mut Vec<u8>, other: usize, chunk: usize) -> Result<(), AllocError>
+    ensures { OnOk result (text.new.items ≡ text.old.items ++ spaced_other chunk other) }
 {
-    if other != chunk && has_owner(spokes, other) {
+    if other != chunk {
         push_number(text, other, b' ')?;
     }
     Ok(())

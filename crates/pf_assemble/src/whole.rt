@@ -11,7 +11,7 @@ ghost use Rattle.pf_assemble.specs.Whole.{HasMesh};
 
 use crate::keepers::lists_of;
 use pf_geom::NoMemory;
-use pf_locks::{Board, BoardSeat, Closed};
+use pf_locks::{Board, BoardSeat, Closed, Ended};
 use pf_mesh::Mesh;
 use pf_model::Entry;
 use pf_star::Copies;
@@ -49,7 +49,8 @@ pub fn assemble(alloc: Global, closed: Closed) -> Result<(Mesh, Vec<Entry>), NoM
 }
 
 /// Ends a board by a seat that has all numbers and holds nothing: the mesh after its history, and the history, which
-/// is the seat's own. Want of memory is the only failure.
+/// is the seat's own. The lists of the mesh are made as the copies are let go, and want no sort. Want of memory is the
+/// only failure.
 pub fn end_board(alloc: Global, board: Board, s: BoardSeat) -> Result<(Mesh, Vec<Entry>), NoMemory>
     requires board { s.seat.table_id ≡ board.table.shared.table_id }
     requires seat { IsSeat board.table.shared.key s }
@@ -59,9 +60,15 @@ pub fn end_board(alloc: Global, board: Board, s: BoardSeat) -> Result<(Mesh, Vec
     ensures mesh { IfOk result (λ r. r.0.mesh ≡ mesh_after board.table.shared.key (own_log s.seat.me.0)) }
     ensures journal { IfOk result (λ r. r.1.items ≡ own_log s.seat.me.0) }
 {
-    let Ok(closed) = board.close(alloc, s) else {
-        return Err(NoMemory);
-    };
-    let (mesh, journal) = assemble(alloc, closed)?;
+    let ended = board.end(alloc, s)?;
+    let Ended {
+        history: journal,
+        first_new,
+        sites,
+        tris,
+        bands,
+        chunks,
+    } = ended;
+    let mesh = Mesh::of_parts(alloc, first_new, sites, tris, bands, chunks)?;
     Ok((mesh, journal))
 }

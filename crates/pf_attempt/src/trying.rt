@@ -15,7 +15,7 @@ ghost use Rattle.pf_attempt.specs.Stages.{judged_first, judged_last, HoldsEnds, 
 use pf_cavity::{Need, need};
 use pf_core_model::{Answer, Asked};
 use pf_geom::NoMemory;
-use pf_ghost::{Ready, prepare};
+use pf_ghost::{Ready, prepare_owned};
 use pf_holder::{Hold, Holder};
 use pf_model::{Cond, Op};
 use pf_patch::patch;
@@ -314,6 +314,6 @@ fn readied<H: Holder>(alloc: Global, h: &H, op: Op) -> Result<Ready, NoMemory>
     ensures { IfOk result (λ r. IsReady (H.lent h.now) (H.opening h.now).mesh.chunks op r) }
 {
     let fresh = patch(alloc, h, op)?;
-    let ready = prepare(alloc, &fresh, h, h.chunks())?;
+    let ready = prepare_owned(alloc, fresh, h, h.chunks())?;
     Ok(ready)
 }

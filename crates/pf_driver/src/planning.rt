@@ -8,7 +8,7 @@ use pf_geom::{NoMemory, Point};
 use pf_model::{Band, Op};
 use pf_order::{EdgeTask, Kind, Order, Place, Task};
 use pf_rings::{Rings, Star, spoke_from, spoke_to};
-use pf_wishes::{EdgeLook, look};
+use pf_wishes::{EdgeLook, longer_at, look};
 
 /// What an entry of the work lists asks for.
 #[derive(Clone, Copy, Debug, PartialEq, Eq)]
@@ -187,7 +187,7 @@ fn late_planned(chunk: u16, op: Op, from: u32, to: u32, place: Place) -> Plan
 fn bisection_planned(star: &Star, seen: EdgeLook, x: u32, task: Task, order: &mut Order) -> Plan
     ensures { IsPlanBy seen.chunk result }
 {
-    if let Some(span) = seen.longer {
+    if let Some(span) = longer_at(star, x) {
         order.walk_on(task, span.lo, span.hi);
         return Plan::Rest;
     }

@@ -1,5 +1,5 @@
 -- The lines of the rest list that pass, and the operations that answer them.
-use Rattle.std.proofs.Common.{◌≡◌, ◌≢◌, ℕ, ◌≤◌, List, [], ◌∷◌, ◌++◌, refl, sym, ◌∙◌, ap, subst, Bool, true, false, ◌||◌, ◌⊎◌, inl, inr, arith}
+use Rattle.std.proofs.Common.{◌≡◌, ℕ, ◌≤◌, List, [], ◌∷◌, ◌++◌, refl, ◌∙◌, ap, subst, Bool, true, false, ◌||◌, ◌⊎◌, inl, inr, arith}
 use Rattle.std.specs.Prelude.{Contains, cond, flat_map, min, max, Option, Some, None, is_none}
 use Rattle.std.specs.List.{list_any}
 use Rattle.pf_model.specs.declared.Op.{Op}
@@ -8,8 +8,8 @@ use Rattle.pf_model.specs.declared.Cond.{Cond}
 use Rattle.pf_model.specs.declared.RestLine.{RestLine}
 use Rattle.pf_model.specs.declared.RestLine.TheVariants as line
 use Rattle.pf_model.specs.Ends.{normal_of}
-use Rattle.pf_model.specs.Mesh.{Undivided, is_edge}
-use Rattle.pf_model.specs.Lengths.{Edge, edge_of, is_long}
+use Rattle.pf_model.specs.Mesh.{Undivided}
+use Rattle.pf_model.specs.Lengths.{Edge, is_long}
 use Rattle.pf_model.specs.Sums.{edges_of}
 use Rattle.pf_model.specs.Conditions.{first_failing}
 use Rattle.pf_model.specs.Wishes.{acting_chunk, is_short, terminal_of, long_lines, short_lines, flip_lines, rest_of}
@@ -19,8 +19,8 @@ use Rattle.pf_model.proofs.Members.{nowhere, here, cases}
 use Rattle.pf_core_model.proofs.Born.{in_contains, contains_in}
 use Rattle.pf_core_model.proofs.Lists.{in_either, in_left, in_right}
 use Rattle.pf_finish.specs.Passing.{passes, has_passing, Answers, IsAnswer}
-use Rattle.pf_finish.specs.Seen.{IsLongSettled, IsShortSettled, IsFlipSettled, IsSettledEdge, IsSettled}
-use Rattle.pf_finish.proofs.Listed.{IsSorted, member-edge, listed-member, is_same}
+use Rattle.pf_finish.specs.Seen.{IsSettledEdge}
+use Rattle.pf_finish.proofs.Listed.{IsSorted, listed-member, is_same}
 
 in_parts : {X : Type 0} (x : X) (xs ys : List X) → Contains (xs ++ ys) x → Contains xs x ⊎ Contains ys x
 in_parts x xs ys h = elim (in_either x xs ys (contains_in x (xs ++ ys) h)) [ inl a ↦ inl (in_contains x xs a) | inr b ↦ inr (in_contains x ys b) ]

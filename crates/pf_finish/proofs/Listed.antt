@@ -1,6 +1,6 @@
 -- The edges of the mesh as a list, and what is known of the ends of an edge.
 -- Assumes `IsConforming m` where it says so.
-use Rattle.std.proofs.Common.{◌≡◌, ◌≢◌, ℕ, ◌<◌, ◌≤◌, refl, sym, ◌∙◌, ap, subst, Bool, true, false, ◌||◌, ◌⊎◌, inl, inr, arith}
+use Rattle.std.proofs.Common.{◌≡◌, ◌≢◌, ℕ, ◌<◌, ◌≤◌, refl, sym, ◌∙◌, ap, subst, Bool, true, false, ◌||◌, arith}
 use Rattle.std.specs.Prelude.{Contains, filter, map, min, max, not, ◌==◌, ◌&&◌, cond, Option, Some, None, is_some, nat_lt}
 use Rattle.std.specs.List.{list_any}
 use Rattle.std.proofs.lemmas.Bool.Decides.{nat_tests}
@@ -8,15 +8,15 @@ use Rattle.pf_model.specs.declared.Side.{Side}
 use Rattle.pf_model.specs.Mesh.{Undivided, DirectedEdge, directed_edges_of, side_of, is_edge}
 use Rattle.pf_model.specs.Lengths.{Edge, edge_of, longer_of, longest_of, is_longer}
 use Rattle.pf_model.specs.Sums.{edge_lt, edges_of, is_counted}
-use Rattle.pf_model.specs.Wishes.{IsTerminal, acting_chunk, owner_of, longer_on, either_of, next_longer, terminal_of}
+use Rattle.pf_model.specs.Wishes.{acting_chunk, owner_of, longer_on, either_of, next_longer, terminal_of}
 use Rattle.pf_model.specs.Conforming.{IsConforming}
 use Rattle.pf_model.proofs.EdgeSum.{conforming-sound, has_left, left_has}
 use Rattle.pf_model.proofs.FlipKeeps.{corners_of}
 use Rattle.pf_model.proofs.Triangles.{tri_of-owner}
 use Rattle.pf_model.proofs.Kept.{side_of-stands, any-from, any-means}
-use Rattle.pf_model.proofs.Members.{nowhere, filter-in, filter-out}
+use Rattle.pf_model.proofs.Members.{filter-in, filter-out}
 use Rattle.pf_model.proofs.Sorted.{sorted-forth, sorted-back}
-use Rattle.pf_model.proofs.ReadClauses.{is_edge-sorted, or-false}
+use Rattle.pf_model.proofs.ReadClauses.{is_edge-sorted}
 use Rattle.pf_model.proofs.Totals.{map-in, map-means}
 use Rattle.pf_model.proofs.Walks.{walk_ends_at_terminal}
 

@@ -1,6 +1,6 @@
 -- Where each node was looked at and nothing was done, no line passes.
-use Rattle.std.proofs.Common.{◌≡◌, ◌≢◌, ℕ, ◌+◌, ◌<◌, ◌≤◌, List, refl, sym, ◌∙◌, ap, subst, Bool, true, false, ◌||◌, ◌&&◌, ◌⊎◌, inl, inr, length, get_or, arith}
-use Rattle.std.specs.Prelude.{Contains, Option, Some, None, not, ◌==◌, nat_lt, min, max}
+use Rattle.std.proofs.Common.{◌≡◌, ℕ, ◌+◌, ◌<◌, ◌≤◌, List, refl, sym, ◌∙◌, ap, subst, Bool, true, false, ◌||◌, ◌&&◌, ◌⊎◌, inl, inr, length, get_or, arith}
+use Rattle.std.specs.Prelude.{Contains, Some, not, ◌==◌, nat_lt}
 use Rattle.std.specs.List.{list_any}
 use Rattle.std.proofs.Props.{props}
 use Rattle.std.proofs.Math.Logic.{∥∥₁_elim}
@@ -56,7 +56,7 @@ name-more P first n now old k l u = go (cases k n u)
 -- the edges at a node are settled: those that may have a line, by what was done, and the others, by the star
 pub node_settled : AreLaws → (o : Opening) (ps : List Held) (rich : ℕ) (entries : List Entry) (n : ℕ) (found : List ℕ) → ∥ KnowsAll o ps rich entries ∥₁
     → ((s : Star) → star_of (mesh_alone o entries) n ≡ Some s → HasWishes o.mesh.bands s found) → ((x : ℕ) → Contains found x → IsSettled (mesh_alone o entries) (edge_of n x)) → IsSettledAt (mesh_alone o entries) n
-node_settled laws o ps rich entries n found k wishes done x edge =
+node_settled laws o ps rich entries n found k wishes done x up edge =
     record {
       long = λ t p. ∥∥₁_elim k (hlevel props) (λ (z : KnowsAll o ps rich entries). (body z).long t p);
       short = λ t. (
@@ -76,11 +76,11 @@ node_settled laws o ps rich entries n found k wishes done x edge =
         let live = edge-live m z.seen.conforming n x (is_edge-back m n x edge) in
         let h : star_of m n ≡ Some star = live_star m n live.0 in
         let near : is_neighbour x star.spokes ≡ true = laws.edges m n x star z.seen.conforming h ∙ is_edge-back m n x edge in
-        go z star h near (is_wished m.bands star x) refl
+        go z star h up near (is_wished m.bands star x) refl
       where
-        go : KnowsAll o ps rich entries → (star : Star) → star_of (mesh_alone o entries) n ≡ Some star → is_neighbour x star.spokes ≡ true → (b : Bool) → is_wished (mesh_alone o entries).bands star x ≡ b → IsSettledEdge (mesh_alone o entries) (edge_of n x)
-        go z star h near true e = done x (wishes star h x near (ap (λ (l : List Band). is_wished l star x) (sym z.seen.banded) ∙ e)) edge
-        go z star h near false e = unwished_settled laws (mesh_alone o entries) n x star z.seen.conforming h near e
+        go : KnowsAll o ps rich entries → (star : Star) → star_of (mesh_alone o entries) n ≡ Some star → star.node ≤ x → is_neighbour x star.spokes ≡ true → (b : Bool) → is_wished (mesh_alone o entries).bands star x ≡ b → IsSettledEdge (mesh_alone o entries) (edge_of n x)
+        go z star h low near true e = done x (wishes star h x low near (ap (λ (l : List Band). is_wished l star x) (sym z.seen.banded) ∙ e)) edge
+        go z star h low near false e = unwished_settled laws (mesh_alone o entries) n x star z.seen.conforming h near e
 
 -- all names were looked at
 pub all-quiet : (o : Opening) (ps : List Held) (rich : ℕ) (entries : List Entry) (live : List ℕ) (end : ℕ) → ∥ KnowsAll o ps rich entries ∥₁ → Covers o live entries end
@@ -112,7 +112,7 @@ all-quiet o ps rich entries live end k c given made = ∥∥₁_elim k (hlevel p
         let r = member-edge m e h in
         let live = edge-live m z.seen.conforming e.lo e.hi r.0 in
         let same = edge_of-same e r.1 in
-        subst (λ (w : Edge). IsSettledEdge m w) same (node e.lo (c.all e.lo live.0) e.hi (subst (λ (w : Edge). is_edge m.tris w.lo w.hi ≡ true) (sym same) r.0))
+        subst (λ (w : Edge). IsSettledEdge m w) same (node e.lo (c.all e.lo live.0) e.hi r.1 (subst (λ (w : Edge). is_edge m.tris w.lo w.hi ≡ true) (sym same) r.0))
 
 -- the names that are given are looked at
 pub covers-given : (o : Opening) (live : List ℕ) (entries : List Entry) → ((n : ℕ) → IsLive (mesh_alone o entries) n → Contains live n) → Covers o live entries o.mesh.first_new

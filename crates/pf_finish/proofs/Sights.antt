@@ -1,28 +1,26 @@
 -- What is seen of an edge in the star of an end is what the mesh has.
-use Rattle.std.proofs.Common.{◌≡◌, ◌≢◌, ℕ, ◌≤◌, List, [], ◌∷◌, refl, sym, ◌∙◌, ap, subst, Bool, true, false, ◌||◌, ◌⊎◌, inl, inr, arith}
-use Rattle.std.specs.Prelude.{Contains, Option, Some, None, IfSome, is_some, is_none, not, min, max}
+use Rattle.std.proofs.Common.{◌≡◌, ℕ, ◌≤◌, List, [], ◌∷◌, refl, sym, ◌∙◌, ap, subst, Bool, true, false, ◌||◌, ◌⊎◌, inl, inr, arith}
+use Rattle.std.specs.Prelude.{Option, Some, None, IfSome, is_some, is_none, not, min, max}
 use Rattle.std.proofs.Props.{props}
 use Rattle.std.proofs.Math.Logic.{∥∥₁_elim}
 use Rattle.pf_model.specs.declared.Band.{Band}
 use Rattle.pf_model.specs.declared.Entry.{Entry}
-use Rattle.pf_model.specs.declared.Op.TheVariants.{Flip, Bisect, Contract}
 use Rattle.pf_model.specs.Mesh.{Undivided, side_of, is_edge}
-use Rattle.pf_model.specs.Lengths.{Edge, edge_of, is_long}
-use Rattle.pf_model.specs.Conditions.{first_failing}
+use Rattle.pf_model.specs.Lengths.{edge_of, is_long}
 use Rattle.pf_model.specs.Conforming.{IsConforming}
 use Rattle.pf_model.specs.Stars.{Star, star_of, is_neighbour}
-use Rattle.pf_model.specs.Wishes.{acting_chunk, is_short, next_longer, terminal_of}
+use Rattle.pf_model.specs.Wishes.{acting_chunk, is_short, next_longer}
 use Rattle.pf_model.proofs.ReadClauses.{is_edge-sorted}
 use Rattle.pf_model.proofs.Replays.{edge-live}
-use Rattle.pf_star_model.specs.Lent.{Held, star_held}
+use Rattle.pf_star_model.specs.Lent.{Held}
 use Rattle.pf_core_model.specs.Lists.{In as ListIn}
 use Rattle.pf_core_model.specs.Core.{Opening}
 use Rattle.pf_core_model.proofs.Seats.{star_named}
 use Rattle.pf_holder.specs.Facts.{won_pair, mesh_alone, KnowsAll, IsSeen}
-use Rattle.pf_wishes.specs.declared.edge_sights.EdgeLook.{EdgeLook}
-use Rattle.pf_wishes.specs.Looks.{IsLook, is_long_shown, is_short_shown, is_shorter_shown}
+use Rattle.pf_finish.specs.declared.edges.EdgeSeen.{EdgeSeen}
+use Rattle.pf_wishes.specs.Looks.{is_long_shown, is_short_shown, is_shorter_shown}
 use Rattle.pf_wishes.specs.Laws.{IsOfMesh, LookIsOfMesh, NeighboursHaveEdges, NoShorterNoFlip}
-use Rattle.pf_finish.specs.Seen.{IsSeenEdge, LooksAt, IsFlipSettled, IsSettled, IsSettledEdge}
+use Rattle.pf_finish.specs.Seen.{IsSeenIn, IsSeenEdge, LooksAt, IsFlipSettled, IsSettled, IsSettledEdge}
 use Rattle.pf_finish.specs.Wished.{is_wished, HasWishes}
 use Rattle.pf_finish.proofs.Tried.{live_star, live_clash}
 
@@ -62,7 +60,7 @@ is_edge-back m a b h = go (is_edge m.tris a b) refl
     go false e = absurd (let k : false ≡ true = sym (is_edge-turned m a b e) ∙ h in cc)
 
 -- what the star of the node shows of the edge to x
-pub star_sight : AreLaws → (m : Undivided) (bands : List Band) (a b : ℕ) (s : Star) (o : Option EdgeLook) → IsConforming m → m.bands ≡ bands → star_of m a ≡ Some s → is_none o ≡ not (is_neighbour b s.spokes) → IfSome o (IsLook bands s b) → LooksAt m (edge_of a b) o
+pub star_sight : AreLaws → (m : Undivided) (bands : List Band) (a b : ℕ) (s : Star) (o : Option EdgeSeen) → IsConforming m → m.bands ≡ bands → star_of m a ≡ Some s → is_none o ≡ not (is_neighbour b s.spokes) → IfSome o (IsSeenIn bands s b) → LooksAt m (edge_of a b) o
 star_sight laws m bands a b s None ok e h none is = is_edge-turned m a b (sym (laws.edges m a b s ok h) ∙ flipped (is_neighbour b s.spokes) none)
   where
     flipped : (t : Bool) → true ≡ not t → t ≡ false
@@ -90,7 +88,7 @@ pub won_star : (o : Opening) (ps : List Held) (rich : ℕ) (entries : List Entry
 won_star o ps rich entries a s k e = ∥∥₁_elim k (hlevel props) (λ (z : KnowsAll o ps rich entries). sym (z.seen.shown (won_pair a s) (subst (λ (l : List Held). ListIn (won_pair a s) l) (sym e) (inl refl))))
 
 -- what is seen in the star that is won
-pub won_sight : (o : Opening) (ps : List Held) (rich : ℕ) (entries : List Entry) (a b : ℕ) (s : Star) (l : Option EdgeLook) → ∥ KnowsAll o ps rich entries ∥₁ → ps ≡ won_pair a s ∷ [] → (IsConforming (mesh_alone o entries) → (mesh_alone o entries).bands ≡ o.mesh.bands → star_of (mesh_alone o entries) a ≡ Some s → LooksAt (mesh_alone o entries) (edge_of a b) l) → LooksAt (mesh_alone o entries) (edge_of a b) l
+pub won_sight : (o : Opening) (ps : List Held) (rich : ℕ) (entries : List Entry) (a b : ℕ) (s : Star) (l : Option EdgeSeen) → ∥ KnowsAll o ps rich entries ∥₁ → ps ≡ won_pair a s ∷ [] → (IsConforming (mesh_alone o entries) → (mesh_alone o entries).bands ≡ o.mesh.bands → star_of (mesh_alone o entries) a ≡ Some s → LooksAt (mesh_alone o entries) (edge_of a b) l) → LooksAt (mesh_alone o entries) (edge_of a b) l
 won_sight o ps rich entries a b s None k e f = ∥∥₁_elim k (hlevel props) (λ (z : KnowsAll o ps rich entries). f z.seen.conforming z.seen.banded (won_star o ps rich entries a s k e))
 won_sight o ps rich entries a b s (Some l) k e f =
     record {

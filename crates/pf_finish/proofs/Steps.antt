@@ -1,6 +1,6 @@
 -- What was done in parts was done in all.
-use Rattle.std.proofs.Common.{◌≡◌, ◌≢◌, ℕ, zero, suc, ◌+◌, ◌<◌, ◌≤◌, List, [], ◌∷◌, ◌++◌, append_assoc, length, refl, sym, ◌∙◌, ap, subst, Bool, true, false, ◌||◌, ◌&&◌, ◌⊎◌, inl, inr, arith}
-use Rattle.std.specs.Prelude.{Contains, IfSome, Option, Some, None, not, ◌==◌, nat_lt}
+use Rattle.std.proofs.Common.{◌≡◌, ℕ, suc, ◌+◌, ◌<◌, ◌≤◌, List, [], ◌∷◌, ◌++◌, append_assoc, length, refl, sym, ◌∙◌, ap, subst, Bool, true, false, ◌||◌, ◌&&◌, ◌⊎◌, inl, inr, arith}
+use Rattle.std.specs.Prelude.{not, ◌==◌, nat_lt}
 use Rattle.std.specs.List.{list_any}
 use Rattle.std.proofs.Props.{props}
 use Rattle.std.proofs.Math.Logic.{∥∥₁_elim}
@@ -10,22 +10,19 @@ use Rattle.pf_model.specs.declared.Op.{Op}
 use Rattle.pf_model.specs.declared.Entry.{Entry}
 use Rattle.pf_model.specs.Ends.{normal_of}
 use Rattle.pf_model.specs.Mesh.{Undivided}
-use Rattle.pf_model.specs.Applied.{applied}
 use Rattle.pf_model.specs.Replay.{replayed}
-use Rattle.pf_model.specs.Conforming.{IsConforming, IsLive}
+use Rattle.pf_model.specs.Conforming.{IsLive}
 use Rattle.pf_model.proofs.Replays.{replayed-push}
-use Rattle.pf_model.proofs.Kept.{any-from, any-means}
 use Rattle.pf_star_model.specs.Lent.{Held}
 use Rattle.pf_core_model.specs.Cavity.{is_made}
-use Rattle.pf_core_model.specs.Core.{Opening, names_of, mesh_after}
+use Rattle.pf_core_model.specs.Core.{Opening}
 use Rattle.pf_core_model.proofs.Told.{live_known}
 use Rattle.pf_core_model.proofs.Replays.{made_name, replayed_first_new}
 use Rattle.pf_holder.specs.Facts.{AreSeen, KnowsAll, history_in, mesh_alone}
-use Rattle.pf_finish.specs.Passing.{IsAnswer, has_passing}
+use Rattle.pf_finish.specs.Passing.{IsAnswer}
 use Rattle.pf_finish.specs.Done.{AreAnswers, HasAnswered, IsFinished, IsAnswered}
 use Rattle.pf_finish.specs.Covers.{is_covered, Covers, IsStep, IsNoted}
 use Rattle.pf_finish.specs.declared.pass.FinishEnd.{FinishEnd}
-use Rattle.pf_finish.specs.declared.pass.FinishEnd.TheVariants as end
 use Rattle.pf_finish.specs.declared.tries.Answered.{Answered}
 use Rattle.pf_finish.specs.declared.tries.Answered.TheVariants.{Done, Spent, Memory}
 use Rattle.pf_finish.proofs.Histories.{history_more}

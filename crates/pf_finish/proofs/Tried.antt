@@ -1,14 +1,14 @@
 -- What a try of an operation says, where nobody else is.
-use Rattle.std.proofs.Common.{◌≡◌, ◌≢◌, ℕ, ◌+◌, ◌<◌, List, ◌∷◌, refl, sym, ◌∙◌, ap, subst, Bool, true, false, ◌⊎◌, inl, inr, arith}
-use Rattle.std.specs.Prelude.{cond, Option, Some, None, IfSome, is_some}
+use Rattle.std.proofs.Common.{◌≡◌, ◌≢◌, ℕ, ◌<◌, List, sym, ◌∙◌, ap, Bool, inl, inr, arith}
+use Rattle.std.specs.Prelude.{cond, Some, None, IfSome}
 use Rattle.std.proofs.Props.{props}
 use Rattle.std.proofs.Math.Logic.{∥∥₁_elim}
 use Rattle.pf_model.specs.declared.Op.{Op}
 use Rattle.pf_model.specs.declared.Cond.{Cond}
 use Rattle.pf_model.specs.declared.Entry.{Entry}
 use Rattle.pf_model.specs.Ends.{first_end, second_end, normal_of}
-use Rattle.pf_model.specs.Mesh.{Undivided, point_of, place_of}
-use Rattle.pf_model.specs.Stars.{Star, star_of, spokes_of}
+use Rattle.pf_model.specs.Mesh.{Undivided, place_of}
+use Rattle.pf_model.specs.Stars.{star_of, spokes_of}
 use Rattle.pf_model.specs.Conforming.{IsConforming, IsLive}
 use Rattle.pf_model.specs.Conditions.{first_failing}
 use Rattle.pf_model.proofs.Replays.{passes-live}
@@ -17,13 +17,11 @@ use Rattle.pf_core_model.specs.declared.answer.Answer.{Answer}
 use Rattle.pf_core_model.specs.declared.answer.Answer.TheVariants as answer
 use Rattle.pf_core_model.specs.Core.{Opening}
 use Rattle.pf_holder.specs.Facts.{mesh_alone, KnowsAll}
-use Rattle.pf_holder.specs.Answers.{IsFailing, IsEndGone, TellsOf, IsEntered}
+use Rattle.pf_holder.specs.Answers.{IsEndGone, TellsOf, IsEntered}
 use Rattle.pf_attempt.specs.Stages.{IsRefusal}
-use Rattle.pf_finish.specs.Passing.{IsAnswer, has_passing}
+use Rattle.pf_finish.specs.Passing.{IsAnswer}
 use Rattle.pf_finish.specs.Done.{answered_of, IsAnswered}
-use Rattle.pf_finish.specs.declared.tries.Answered.{Answered}
-use Rattle.pf_finish.specs.declared.tries.Answered.TheVariants.{Done, Spent, Memory}
-use Rattle.pf_finish.proofs.Lines.{answer-passing}
+use Rattle.pf_finish.specs.declared.tries.Answered.TheVariants.{Done, Memory}
 
 -- a live node has a star
 pub live_star : (m : Undivided) (n : ℕ) → IsLive m n → star_of m n ≡ Some record { node = n; at = place_of m n; spokes = spokes_of m n }

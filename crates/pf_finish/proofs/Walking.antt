@@ -1,13 +1,12 @@
 -- The walk to longer edges as a loop: how many moves are left of it.
-use Rattle.std.proofs.Common.{◌≡◌, ℕ, zero, suc, ◌*◌, ◌<◌, refl, sym, ◌∙◌, ap, subst, Bool, true, false, arith}
+use Rattle.std.proofs.Common.{◌≡◌, ℕ, zero, suc, ◌*◌, ◌<◌, refl, sym, ◌∙◌, ap, subst, true, false, arith}
 use Rattle.std.specs.Prelude.{Option, Some, None, length}
 use Rattle.pf_model.specs.Mesh.{Undivided, is_edge}
 use Rattle.pf_model.specs.Lengths.{Edge, edge_of}
 use Rattle.pf_model.specs.Wishes.{next_longer, walked, terminal_of}
-use Rattle.pf_rest.specs.Rest.{IsFinite}
 use Rattle.pf_rest.proofs.WalkEnds.{terminal-on, finite-listed}
 use Rattle.pf_rest.proofs.WalkSteps.{walked-ends}
-use Rattle.pf_wishes.specs.declared.edge_sights.EdgeLook.{EdgeLook}
+use Rattle.pf_finish.specs.declared.edges.EdgeSeen.{EdgeSeen}
 use Rattle.pf_finish.specs.Seen.{IsSeenEdge, seen_longer}
 use Rattle.pf_finish.proofs.Listed.{IsSorted, edge_of-same, next-sorted, end-edge, no-walk}
 
@@ -45,21 +44,21 @@ moves-fall (suc n) m e f h k =
     omega (arith, on, same)
 
 -- where the loop stands: at an edge of the mesh, from which the walk ends at the same one
-pub record IsAt (m : Undivided) (start at : Edge) (look : EdgeLook) : Type 0 where
+pub record IsAt (m : Undivided) (start at : Edge) (look : EdgeSeen) : Type 0 where
   pub sorted : IsSorted at
   pub seen : IsSeenEdge m at look
   pub end : terminal_of m at ≡ terminal_of m start
 
 -- a move leaves fewer
-pub at-falls : (m : Undivided) (start e f : Edge) (look : EdgeLook) → IsAt m start e look → seen_longer look ≡ Some f → moves_left m f < moves_left m e
+pub at-falls : (m : Undivided) (start e f : Edge) (look : EdgeSeen) → IsAt m start e look → seen_longer look ≡ Some f → moves_left m f < moves_left m e
 at-falls m start e f look a h = moves-fall (3 * length m.tris) m e f (finite-listed m e a.sorted) (sym a.seen.longer ∙ h)
 
 -- it goes to an edge with the lower name first
-pub at-sorted : (m : Undivided) (start e f : Edge) (look : EdgeLook) → IsAt m start e look → seen_longer look ≡ Some f → edge_of f.lo f.hi ≡ f
+pub at-sorted : (m : Undivided) (start e f : Edge) (look : EdgeSeen) → IsAt m start e look → seen_longer look ≡ Some f → edge_of f.lo f.hi ≡ f
 at-sorted m start e f look a h = edge_of-same f (next-sorted m e f (sym a.seen.longer ∙ h))
 
 -- of the mesh
-pub at-edge : (m : Undivided) (start e f : Edge) (look : EdgeLook) → IsAt m start e look → seen_longer look ≡ Some f → is_edge m.tris (edge_of f.lo f.hi).lo (edge_of f.lo f.hi).hi ≡ false → ⊥
+pub at-edge : (m : Undivided) (start e f : Edge) (look : EdgeSeen) → IsAt m start e look → seen_longer look ≡ Some f → is_edge m.tris (edge_of f.lo f.hi).lo (edge_of f.lo f.hi).hi ≡ false → ⊥
 at-edge m start e f look a h none =
     let next : next_longer m e ≡ Some f = sym a.seen.longer ∙ h in
     let sorted = next-sorted m e f next in
@@ -70,7 +69,7 @@ at-edge m start e f look a h none =
     absurd (let z : true ≡ false = sym on ∙ off in cc)
 
 -- the walk from there ends where it began to end
-pub at-next : (m : Undivided) (start e f : Edge) (look found : EdgeLook) → IsAt m start e look → seen_longer look ≡ Some f → IsSeenEdge m (edge_of f.lo f.hi) found → IsAt m start f found
+pub at-next : (m : Undivided) (start e f : Edge) (look found : EdgeSeen) → IsAt m start e look → seen_longer look ≡ Some f → IsSeenEdge m (edge_of f.lo f.hi) found → IsAt m start f found
 at-next m start e f look found a h seen =
     let next : next_longer m e ≡ Some f = sym a.seen.longer ∙ h in
     record {
@@ -80,5 +79,5 @@ at-next m start e f look found a h seen =
     }
 
 -- where it goes no further it ends
-pub at-end : (m : Undivided) (start e : Edge) (look : EdgeLook) → IsAt m start e look → seen_longer look ≡ None → e ≡ terminal_of m start
+pub at-end : (m : Undivided) (start e : Edge) (look : EdgeSeen) → IsAt m start e look → seen_longer look ≡ None → e ≡ terminal_of m start
 at-end m start e look a h = sym (walked-ends (3 * length m.tris) m e (sym a.seen.longer ∙ h)) ∙ a.end

@@ -1,7 +1,6 @@
 -- Operations on one edge: what makes them answers, and what it means that they fail.
-use Rattle.std.proofs.Common.{◌≡◌, ◌≢◌, ℕ, ◌<◌, ◌≤◌, List, [], ◌∷◌, refl, sym, ◌∙◌, ap, subst, Bool, true, false, arith}
+use Rattle.std.proofs.Common.{◌≡◌, ◌≢◌, ℕ, ◌<◌, List, [], ◌∷◌, refl, sym, ◌∙◌, ap, subst, Bool, true, false, arith}
 use Rattle.std.specs.Prelude.{cond, ◌==◌, Option, Some, None, IfSome, is_none, not, Result, Ok, Err, OnOk, is_err}
-use Rattle.std.specs.Option.{option_map}
 use Rattle.std.specs.List.{list_any}
 use Rattle.std.proofs.Props.{props}
 use Rattle.std.proofs.Math.Logic.{∥∥₁_elim}
@@ -12,26 +11,25 @@ use Rattle.pf_model.specs.declared.Op.TheVariants.{Flip, Bisect, Contract}
 use Rattle.pf_model.specs.declared.Entry.{Entry}
 use Rattle.pf_model.specs.Ends.{normal_of}
 use Rattle.pf_model.specs.Mesh.{Undivided, is_edge}
-use Rattle.pf_model.specs.Lengths.{Edge, edge_of, is_long}
+use Rattle.pf_model.specs.Lengths.{Edge, edge_of}
 use Rattle.pf_model.specs.Sums.{edges_of}
 use Rattle.pf_model.specs.Conforming.{IsConforming}
 use Rattle.pf_model.specs.Conditions.{first_failing}
 use Rattle.pf_model.specs.Stars.{Star, star_of, is_neighbour}
-use Rattle.pf_model.specs.Wishes.{acting_chunk, is_short, terminal_of}
+use Rattle.pf_model.specs.Wishes.{acting_chunk, terminal_of}
 use Rattle.pf_star_model.specs.Lent.{Held, star_held}
 use Rattle.pf_core_model.specs.Core.{Opening}
 use Rattle.pf_core_model.proofs.Replays.{replayed_chunks}
 use Rattle.pf_holder.specs.Facts.{won_pair, history_in, mesh_alone, KnowsAll}
-use Rattle.pf_wishes.specs.declared.edge_sights.EdgeLook.{EdgeLook}
-use Rattle.pf_wishes.specs.Looks.{IsLook}
+use Rattle.pf_finish.specs.declared.edges.EdgeSeen.{EdgeSeen}
 use Rattle.pf_finish.specs.Passing.{IsAnswer}
-use Rattle.pf_finish.specs.Seen.{IsSeenEdge, LooksAt, IsLongSettled, IsShortSettled, IsFlipSettled, IsSettled, IsSettledEdge}
+use Rattle.pf_finish.specs.Seen.{IsSeenIn, IsSeenEdge, LooksAt, IsLongSettled, IsShortSettled, IsFlipSettled, IsSettled, IsSettledEdge}
 use Rattle.pf_finish.specs.Wished.{is_wished, HasWishes}
 use Rattle.pf_finish.specs.Done.{IsAnswered}
 use Rattle.pf_finish.specs.declared.tries.Answered.{Answered}
 use Rattle.pf_finish.proofs.Listed.{IsSorted, is_same, edge-listed, acting-below, end-edge}
 use Rattle.pf_finish.proofs.Lines.{long-answer, short-answer, short-answer_back, flip-answer}
-use Rattle.pf_finish.proofs.Sights.{AreLaws, star_sight, won_sight, won_star}
+use Rattle.pf_finish.proofs.Sights.{AreLaws, star_sight, won_star}
 
 -- the mesh of the same holder, with the same entries, is the same
 pub mesh_same : (o o1 : Opening) (es es1 : List Entry) → o1 ≡ o → es1 ≡ es → mesh_alone o1 es1 ≡ mesh_alone o es
@@ -61,7 +59,7 @@ pub record IsEnd (m : Undivided) (e t : Edge) (chunk : ℕ) : Type 0 where
   pub end : t ≡ terminal_of m e
   pub chunk_is : chunk ≡ acting_chunk m t
 
-pub long_wish : (o : Opening) (ps : List Held) (rich : ℕ) (es : List Entry) (m1 : Undivided) (e t : Edge) (look : EdgeLook) (chunk : ℕ) → m1 ≡ mesh_alone o es → ∥ KnowsAll o ps rich es ∥₁ → IsSorted e → IsSeenEdge (mesh_alone o es) e look → look.long ≡ true → IsEnd (mesh_alone o es) e t chunk
+pub long_wish : (o : Opening) (ps : List Held) (rich : ℕ) (es : List Entry) (m1 : Undivided) (e t : Edge) (look : EdgeSeen) (chunk : ℕ) → m1 ≡ mesh_alone o es → ∥ KnowsAll o ps rich es ∥₁ → IsSorted e → IsSeenEdge (mesh_alone o es) e look → look.long ≡ true → IsEnd (mesh_alone o es) e t chunk
     → first_failing m1 chunk (Bisect t.lo t.hi) ≡ None → IsAnswer m1 chunk (normal_of (Bisect t.lo t.hi))
 long_wish o ps rich es m1 e t look chunk q k l seen long end p =
     subst (λ (x : Undivided). IsAnswer x chunk (normal_of (Bisect t.lo t.hi))) (sym q)
@@ -69,7 +67,7 @@ long_wish o ps rich es m1 e t look chunk q k l seen long end p =
     (long-answer (mesh_alone o es) e t (listed_alone o ps rich es e k l seen.edge) end.end end.sorted (sym seen.long ∙ long)
     (subst (λ (x : ℕ). first_failing (mesh_alone o es) x (Bisect t.lo t.hi) ≡ None) end.chunk_is (subst (λ (x : Undivided). first_failing x chunk (Bisect t.lo t.hi) ≡ None) q p))))
 
-pub end_is_edge : (m : Undivided) (e t : Edge) (look : EdgeLook) (chunk : ℕ) → IsSorted e → IsSeenEdge m e look → IsEnd m e t chunk → is_edge m.tris t.lo t.hi ≡ true
+pub end_is_edge : (m : Undivided) (e t : Edge) (look : EdgeSeen) (chunk : ℕ) → IsSorted e → IsSeenEdge m e look → IsEnd m e t chunk → is_edge m.tris t.lo t.hi ≡ true
 end_is_edge m e t look chunk l seen end = subst (λ (x : Edge). is_edge m.tris x.lo x.hi ≡ true) (sym end.end) (end-edge m e l seen.edge)
 
 pub long_settled : (m m1 : Undivided) (e t : Edge) (chunk : ℕ) → m1 ≡ m → IsEnd m e t chunk → first_failing m1 chunk (Bisect t.lo t.hi) ≢ None → IsLongSettled m e
@@ -78,11 +76,11 @@ long_settled m m1 e t chunk q end f long p =
     (subst (λ (x : ℕ). first_failing m x (Bisect t.lo t.hi) ≡ None) (sym end.chunk_is)
     (subst (λ (x : Edge). first_failing m (acting_chunk m x) (Bisect x.lo x.hi) ≡ None) (sym end.end) p)))
 
-pub not_long : (m : Undivided) (e : Edge) (look : EdgeLook) → IsSeenEdge m e look → look.long ≡ false → IsLongSettled m e
+pub not_long : (m : Undivided) (e : Edge) (look : EdgeSeen) → IsSeenEdge m e look → look.long ≡ false → IsLongSettled m e
 not_long m e look seen not_so long p = absurd (let k : false ≡ true = sym not_so ∙ seen.long ∙ long in cc)
 
 -- the contractions of a short edge
-pub short_wish : (o : Opening) (ps : List Held) (rich : ℕ) (es : List Entry) (m1 : Undivided) (e : Edge) (look : EdgeLook) → m1 ≡ mesh_alone o es → ∥ KnowsAll o ps rich es ∥₁ → IsSorted e → IsSeenEdge (mesh_alone o es) e look → look.short ≡ true
+pub short_wish : (o : Opening) (ps : List Held) (rich : ℕ) (es : List Entry) (m1 : Undivided) (e : Edge) (look : EdgeSeen) → m1 ≡ mesh_alone o es → ∥ KnowsAll o ps rich es ∥₁ → IsSorted e → IsSeenEdge (mesh_alone o es) e look → look.short ≡ true
     → first_failing m1 look.chunk (Contract e.lo e.hi) ≡ None → IsAnswer m1 look.chunk (normal_of (Contract e.lo e.hi))
 short_wish o ps rich es m1 e look q k l seen short p =
     subst (λ (x : Undivided). IsAnswer x look.chunk (normal_of (Contract e.lo e.hi))) (sym q)
@@ -90,7 +88,7 @@ short_wish o ps rich es m1 e look q k l seen short p =
     (short-answer (mesh_alone o es) e (listed_alone o ps rich es e k l seen.edge) (sym seen.short ∙ short)
     (subst (λ (x : ℕ). first_failing (mesh_alone o es) x (Contract e.lo e.hi) ≡ None) seen.chunk (subst (λ (x : Undivided). first_failing x look.chunk (Contract e.lo e.hi) ≡ None) q p))))
 
-pub short_wish_back : (o : Opening) (ps : List Held) (rich : ℕ) (es : List Entry) (m1 : Undivided) (e : Edge) (look : EdgeLook) → m1 ≡ mesh_alone o es → ∥ KnowsAll o ps rich es ∥₁ → IsSorted e → IsSeenEdge (mesh_alone o es) e look → look.short ≡ true
+pub short_wish_back : (o : Opening) (ps : List Held) (rich : ℕ) (es : List Entry) (m1 : Undivided) (e : Edge) (look : EdgeSeen) → m1 ≡ mesh_alone o es → ∥ KnowsAll o ps rich es ∥₁ → IsSorted e → IsSeenEdge (mesh_alone o es) e look → look.short ≡ true
     → first_failing m1 look.chunk (Contract e.hi e.lo) ≡ None → IsAnswer m1 look.chunk (normal_of (Contract e.hi e.lo))
 short_wish_back o ps rich es m1 e look q k l seen short p =
     subst (λ (x : Undivided). IsAnswer x look.chunk (normal_of (Contract e.hi e.lo))) (sym q)
@@ -99,14 +97,14 @@ short_wish_back o ps rich es m1 e look q k l seen short p =
     (subst (λ (x : ℕ). first_failing (mesh_alone o es) x (Contract e.hi e.lo) ≡ None) seen.chunk (subst (λ (x : Undivided). first_failing x look.chunk (Contract e.hi e.lo) ≡ None) q p))))
 
 -- what fails by the chunk that was seen fails by the acting chunk
-pub fails_from : (m m1 : Undivided) (e : Edge) (look : EdgeLook) (op : Op) → m1 ≡ m → IsSeenEdge m e look → first_failing m1 look.chunk op ≢ None → first_failing m (acting_chunk m e) op ≢ None
+pub fails_from : (m m1 : Undivided) (e : Edge) (look : EdgeSeen) (op : Op) → m1 ≡ m → IsSeenEdge m e look → first_failing m1 look.chunk op ≢ None → first_failing m (acting_chunk m e) op ≢ None
 fails_from m m1 e look op q seen f p = f (subst (λ (x : Undivided). first_failing x look.chunk op ≡ None) (sym q) (subst (λ (x : ℕ). first_failing m x op ≡ None) (sym seen.chunk) p))
 
-pub not_short : (m : Undivided) (e : Edge) (look : EdgeLook) → IsSeenEdge m e look → look.short ≡ false → IsShortSettled m e
+pub not_short : (m : Undivided) (e : Edge) (look : EdgeSeen) → IsSeenEdge m e look → look.short ≡ false → IsShortSettled m e
 not_short m e look seen not_so short = absurd (let k : false ≡ true = sym not_so ∙ seen.short ∙ short in cc)
 
 -- the flip
-pub flip_wish : (o : Opening) (ps : List Held) (rich : ℕ) (es : List Entry) (e : Edge) (look : EdgeLook) → ∥ KnowsAll o ps rich es ∥₁ → IsSorted e → IsSeenEdge (mesh_alone o es) e look
+pub flip_wish : (o : Opening) (ps : List Held) (rich : ℕ) (es : List Entry) (e : Edge) (look : EdgeSeen) → ∥ KnowsAll o ps rich es ∥₁ → IsSorted e → IsSeenEdge (mesh_alone o es) e look
     → first_failing (mesh_alone o es) look.chunk (Flip e.lo e.hi) ≡ None → IsAnswer (mesh_alone o es) look.chunk (normal_of (Flip e.lo e.hi))
 flip_wish o ps rich es e look k l seen p =
     subst (λ (x : ℕ). IsAnswer (mesh_alone o es) x (normal_of (Flip e.lo e.hi))) (sym seen.chunk)
@@ -114,14 +112,14 @@ flip_wish o ps rich es e look k l seen p =
     (subst (λ (x : ℕ). first_failing (mesh_alone o es) x (Flip e.lo e.hi) ≡ None) seen.chunk p))
 
 -- what was seen is so on the same mesh
-pub seen_from : (m m1 : Undivided) (e : Edge) (look : EdgeLook) → m1 ≡ m → IsSeenEdge m e look → IsSeenEdge m1 e look
+pub seen_from : (m m1 : Undivided) (e : Edge) (look : EdgeSeen) → m1 ≡ m → IsSeenEdge m e look → IsSeenEdge m1 e look
 seen_from m m1 e look q s = subst (λ (x : Undivided). IsSeenEdge x e look) (sym q) s
 
 pub settled_edge : (m m1 m2 m3 : Undivided) (e e1 : Edge) → m1 ≡ m → m2 ≡ m → m3 ≡ m → e1 ≡ e → IsLongSettled m1 e1 → IsShortSettled m2 e1 → IsFlipSettled m3 e1 → IsSettled m e
 settled_edge m m1 m2 m3 e e1 q r t n l s f edge = subst (λ (x : Edge). IsSettledEdge m x) n (record { long = subst (λ (x : Undivided). IsLongSettled x e1) q l; short = subst (λ (x : Undivided). IsShortSettled x e1) r s; flip = subst (λ (x : Undivided). IsFlipSettled x e1) t f })
 
 -- what was seen of an edge is so of the same edge of the same mesh
-pub looks_from : (m m1 : Undivided) (e e1 : Edge) (o : Option EdgeLook) → m1 ≡ m → e1 ≡ e → LooksAt m e o → LooksAt m1 e1 o
+pub looks_from : (m m1 : Undivided) (e e1 : Edge) (o : Option EdgeSeen) → m1 ≡ m → e1 ≡ e → LooksAt m e o → LooksAt m1 e1 o
 looks_from m m1 e e1 o q r h = subst (λ (x : Undivided). LooksAt x e1 o) (sym q) (subst (λ (x : Edge). LooksAt m x o) (sym r) h)
 
 pub not_settled : (m : Undivided) (e : Edge) → is_edge m.tris e.lo e.hi ≡ false → IsSettled m e
@@ -135,10 +133,10 @@ won_lent a s = ap (λ (b : Bool). cond b (Some s) None) (itself a)
     itself a = grind (arith, nat_tests)
 
 -- what the star shows that is lent
-pub lent_sight : AreLaws → (m : Undivided) (bands bands1 : List Band) (a b : ℕ) (s s1 : Star) (o : Option EdgeLook) → IsConforming m → m.bands ≡ bands → star_of m a ≡ Some s → s1 ≡ s → bands1 ≡ bands → is_none o ≡ not (is_neighbour b s1.spokes) → IfSome o (IsLook bands1 s1 b) → LooksAt m (edge_of a b) o
+pub lent_sight : AreLaws → (m : Undivided) (bands bands1 : List Band) (a b : ℕ) (s s1 : Star) (o : Option EdgeSeen) → IsConforming m → m.bands ≡ bands → star_of m a ≡ Some s → s1 ≡ s → bands1 ≡ bands → is_none o ≡ not (is_neighbour b s1.spokes) → IfSome o (IsSeenIn bands1 s1 b) → LooksAt m (edge_of a b) o
 lent_sight laws m bands bands1 a b s s1 o ok e h q r none is =
     star_sight laws m bands a b s o ok e h (subst (λ (x : Star). is_none o ≡ not (is_neighbour b x.spokes)) q none)
-    (subst (λ (x : Star). IfSome o (IsLook bands x b)) q (subst (λ (x : List Band). IfSome o (IsLook x s1 b)) r is))
+    (subst (λ (x : Star). IfSome o (IsSeenIn bands x b)) q (subst (λ (x : List Band). IfSome o (IsSeenIn x s1 b)) r is))
 
 pub some_star : (s t : Star) → Some s ≡ Some t → s ≡ t
 some_star s t e = cc

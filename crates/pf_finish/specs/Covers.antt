@@ -1,7 +1,6 @@
 -- Which names a pass looks at: those that are given, and those from the first new one up to an end.
 use Rattle.std.specs.Prelude.{◌≡◌, ℕ, ◌+◌, ◌<◌, ◌≤◌, List, Bool, true, not, ◌&&◌, ◌||◌, ◌==◌, nat_lt, length}
 use Rattle.std.specs.List.{list_any}
-use Rattle.pf_model.specs.declared.Op.{Op}
 use Rattle.pf_model.specs.declared.Entry.{Entry}
 use Rattle.pf_model.specs.Lengths.{edge_of}
 use Rattle.pf_model.specs.Mesh.{Undivided}
@@ -29,9 +28,9 @@ pub record IsStep (o : Opening) (rich : ℕ) (before : List Entry) (from : ℕ) 
   pub covers : (live : List ℕ) → Covers o live before from → Covers o live after end
   pub stays : left ≡ rich → end ≡ from
 
--- no line passes of an edge at the node
+-- no line passes of an edge whose lower end is the node
 abbrev pub IsSettledAt : Undivided → ℕ → Type 0
-IsSettledAt m n = (x : ℕ) → IsSettled m (edge_of n x)
+IsSettledAt m n = (x : ℕ) → n ≤ x → IsSettled m (edge_of n x)
 
 -- what became of a line: the allowance fell, or nothing is left of it, or memory was wanting
 abbrev pub IsNoted : Undivided → ℕ → ℕ → Answered → Type 0

@@ -1,10 +1,9 @@
 -- What was done: the entries that were added, each of which answers a line.
-use Rattle.std.specs.Prelude.{◌≡◌, ℕ, ◌+◌, List, [], ◌∷◌, ◌++◌, length, true, false, Option, Some, None, Contains}
+use Rattle.std.specs.Prelude.{◌≡◌, ℕ, ◌+◌, List, [], ◌∷◌, ◌++◌, length, true, false, Option, Some, None}
 use Rattle.pf_model.specs.declared.Op.{Op}
 use Rattle.pf_model.specs.declared.Entry.{Entry}
 use Rattle.pf_model.specs.Ends.{normal_of}
 use Rattle.pf_model.specs.Mesh.{Undivided}
-use Rattle.pf_model.specs.Conforming.{IsLive}
 use Rattle.pf_core_model.specs.declared.answer.Answer.{Answer}
 use Rattle.pf_core_model.specs.declared.answer.Answer.TheVariants as answer
 use Rattle.pf_core_model.specs.Core.{Opening}

@@ -1,17 +1,28 @@
 -- What is seen of an edge of the mesh, and which of its lines pass.
-use Rattle.std.specs.Prelude.{◌≡◌, ◌≢◌, ℕ, Bool, true, false, Option, Some, None}
+use Rattle.std.specs.Prelude.{◌≡◌, ◌≢◌, ℕ, List, Bool, true, false, Option, Some, None}
 use Rattle.std.specs.Option.{option_map}
+use Rattle.pf_model.specs.declared.Band.{Band}
 use Rattle.pf_model.specs.declared.Op.TheVariants.{Flip, Bisect, Contract}
 use Rattle.pf_model.specs.Mesh.{Undivided, is_edge}
 use Rattle.pf_model.specs.Lengths.{Edge, is_long}
 use Rattle.pf_model.specs.Conditions.{first_failing}
+use Rattle.pf_model.specs.Stars.{Star}
 use Rattle.pf_model.specs.Wishes.{acting_chunk, is_short, next_longer, terminal_of}
 use Rattle.pf_rules.specs.Lengths.{span_value}
-use Rattle.pf_wishes.specs.declared.edge_sights.EdgeLook.{EdgeLook}
+use Rattle.pf_wishes.specs.Looks.{acting_shown, is_long_shown, is_short_shown, is_shorter_shown, longer_shown}
+use Rattle.pf_finish.specs.declared.edges.EdgeSeen.{EdgeSeen}
 
 -- where the walk goes on, as it was seen
-abbrev pub seen_longer : EdgeLook → Option Edge
+abbrev pub seen_longer : EdgeSeen → Option Edge
 seen_longer l = option_map span_value l.longer
+
+-- what the star shows of the edge to x
+pub record IsSeenIn (bands : List Band) (s : Star) (x : ℕ) (l : EdgeSeen) : Type 0 where
+  pub chunk : l.chunk ≡ acting_shown s x
+  pub long : l.long ≡ is_long_shown bands s x
+  pub short : l.short ≡ is_short_shown bands s x
+  pub shorter_flip : l.shorter_flip ≡ is_shorter_shown s x
+  pub longer : seen_longer l ≡ longer_shown s x
 
 -- the bisection of the edge where the walk of a long edge ends fails
 abbrev pub IsLongSettled : Undivided → Edge → Type 0
@@ -26,7 +37,7 @@ abbrev pub IsFlipSettled : Undivided → Edge → Type 0
 IsFlipSettled m e = first_failing m (acting_chunk m e) (Flip e.lo e.hi) ≢ None
 
 -- an edge of the mesh, of which this was seen
-pub record IsSeenEdge (m : Undivided) (e : Edge) (l : EdgeLook) : Type 0 where
+pub record IsSeenEdge (m : Undivided) (e : Edge) (l : EdgeSeen) : Type 0 where
   pub edge : is_edge m.tris e.lo e.hi ≡ true
   pub chunk : l.chunk ≡ acting_chunk m e
   pub long : l.long ≡ is_long m e.lo e.hi
@@ -35,7 +46,7 @@ pub record IsSeenEdge (m : Undivided) (e : Edge) (l : EdgeLook) : Type 0 where
   pub flip : l.shorter_flip ≡ false → IsFlipSettled m e
 
 -- what a look at an edge says
-abbrev pub LooksAt : Undivided → Edge → Option EdgeLook → Type 0
+abbrev pub LooksAt : Undivided → Edge → Option EdgeSeen → Type 0
 LooksAt m e None = is_edge m.tris e.lo e.hi ≡ false
 LooksAt m e (Some l) = IsSeenEdge m e l
 

@@ -1,21 +1,38 @@
 //! One edge: what is seen of it, and its lines answered.
-ghost use Rattle.std.specs.Prelude.{◌≡◌, ◌≤◌, [], Some, None, IfSome};
+ghost use Rattle.std.specs.Prelude.{◌≡◌, ◌≤◌, [], Some, None, IfSome, is_none, not};
 ghost use Rattle.pf_model.specs.Lengths.{edge_of};
 ghost use Rattle.pf_model.specs.Mesh.{Undivided};
 ghost use Rattle.pf_model.specs.Conforming.{IsConforming};
-ghost use Rattle.pf_model.specs.Stars.{Star, star_of};
+ghost use Rattle.pf_model.specs.Stars as stars;
+ghost use Rattle.pf_model.specs.Stars.{star_of, is_neighbour};
 ghost use Rattle.pf_model.specs.Wishes.{acting_chunk, terminal_of};
 ghost use Rattle.pf_rules.specs.Lengths.{span_value};
 ghost use Rattle.pf_holder.specs.Facts.{LendsAll, mesh_alone};
-ghost use Rattle.pf_finish.specs.Seen.{LooksAt, IsLongSettled, IsShortSettled, IsFlipSettled, IsSettled};
+ghost use Rattle.pf_finish.specs.Seen.{IsSeenIn, LooksAt, IsLongSettled, IsShortSettled, IsFlipSettled, IsSettled};
 ghost use Rattle.pf_finish.specs.Done.{IsAnswered};
 
 use crate::tries::{Answered, wish_tried};
 use pf_holder::{Hold, Holder};
-use pf_model::Op;
+use pf_model::{Band, Op};
+use pf_rings::Star;
 use pf_rules::lengths::Span;
-use pf_wishes::{EdgeLook, look, look_is_of_mesh, neighbours_have_edges, no_shorter_no_flip};
+use pf_wishes::{longer_at, look, look_is_of_mesh, neighbours_have_edges, no_shorter_no_flip};
 use std::alloc::Global;
+
+/// What is seen of an edge, with where the walk to the longest edge goes on.
+#[derive(Clone, Copy, Debug, PartialEq, Eq)]
+pub struct EdgeSeen {
+    /// The acting chunk.
+    pub chunk: u16,
+    /// The edge is longer than its band allows.
+    pub long: bool,
+    /// It is shorter than its band allows.
+    pub short: bool,
+    /// There are two triangles at it, and the other diagonal is strictly shorter.
+    pub shorter_flip: bool,
+    /// Where the walk goes on.
+    pub longer: Option<Span>,
+}
 
 /// The edge between two names.
 pub fn span_of(a: u32, b: u32) -> Span
@@ -29,21 +46,38 @@ pub fn span_of(a: u32, b: u32) -> Span
     }
 }
 
+// What a star shows of the edge to `b`: `None` exactly where that is no neighbour.
+fn star_shown(bands: &[Band], star: &Star, b: u32) -> Option<EdgeSeen>
+    ensures none { is_none result ≡ not (is_neighbour b star.now.spokes) }
+    ensures fields { IfSome result (IsSeenIn bands.now star.now b) }
+{
+    let Some(seen) = look(bands, star, b) else {
+        return None;
+    };
+    Some(EdgeSeen {
+        chunk: seen.chunk,
+        long: seen.long,
+        short: seen.short,
+        shorter_flip: seen.shorter_flip,
+        longer: longer_at(star, b),
+    })
+}
+
 // What the star of `a` shows of the edge to `b`, where it is lent.
-fn star_looked<H: Holder>(h: &H, a: u32, b: u32) -> Option<EdgeLook>
-    ensures { (m : Undivided) (s : Star) → IsConforming m → m.bands ≡ (H.opening h.now).mesh.bands → star_of m a ≡ Some s → H.lent h.now a ≡ Some s → LooksAt m (edge_of a b) result }
+fn star_looked<H: Holder>(h: &H, a: u32, b: u32) -> Option<EdgeSeen>
+    ensures { (m : Undivided) (s : stars.Star) → IsConforming m → m.bands ≡ (H.opening h.now).mesh.bands → star_of m a ≡ Some s → H.lent h.now a ≡ Some s → LooksAt m (edge_of a b) result }
 {
     look_is_of_mesh();
     neighbours_have_edges();
     no_shorter_no_flip();
     match h.ring(a) {
-        Some(ring) => look(h.bands(), ring.star(), b),
+        Some(ring) => star_shown(h.bands(), ring.star(), b),
         None => None,
     }
 }
 
 // What is seen of the edge from `a` to `b`: `None` exactly where there is none. The node is held then, where it is live.
-fn held_seen<H: Holder>(h: &mut H, a: u32, b: u32) -> Option<EdgeLook>
+fn held_seen<H: Holder>(h: &mut H, a: u32, b: u32) -> Option<EdgeSeen>
     requires alone { H.alone h.old }
     requires nothing { H.pairs h.old ≡ [] }
     requires lends { LendsAll (H.lent h.old) (H.pairs h.old) }
@@ -60,7 +94,7 @@ fn held_seen<H: Holder>(h: &mut H, a: u32, b: u32) -> Option<EdgeLook>
 }
 
 /// What is seen of the edge from `a` to `b`: `None` exactly where there is none.
-pub fn edge_seen<H: Holder>(h: &mut H, a: u32, b: u32) -> Option<EdgeLook>
+pub fn edge_seen<H: Holder>(h: &mut H, a: u32, b: u32) -> Option<EdgeSeen>
     requires alone { H.alone h.old }
     requires nothing { (H.pairs h.old ≡ []) × (H.unborn h.old ≡ None) × (H.owed h.old ≡ []) }
     requires lends { LendsAll (H.lent h.old) (H.pairs h.old) }
@@ -76,7 +110,7 @@ pub fn edge_seen<H: Holder>(h: &mut H, a: u32, b: u32) -> Option<EdgeLook>
 }
 
 // Where the walk from an edge to longer edges ends, and the chunk that acts there.
-fn walk_end<H: Holder>(h: &mut H, e: Span, seen: EdgeLook) -> (Span, u16)
+fn walk_end<H: Holder>(h: &mut H, e: Span, seen: EdgeSeen) -> (Span, u16)
     requires alone { H.alone h.old }
     requires nothing { (H.pairs h.old ≡ []) × (H.unborn h.old ≡ None) × (H.owed h.old ≡ []) }
     requires lends { LendsAll (H.lent h.old) (H.pairs h.old) }
@@ -107,7 +141,7 @@ fn walk_end<H: Holder>(h: &mut H, e: Span, seen: EdgeLook) -> (Span, u16)
 }
 
 // Bisects the edge where the walk of a long edge ends.
-fn long_answered<H: Holder>(alloc: Global, h: &mut H, e: Span, seen: EdgeLook) -> Option<Answered>
+fn long_answered<H: Holder>(alloc: Global, h: &mut H, e: Span, seen: EdgeSeen) -> Option<Answered>
     requires alone { H.alone h.old }
     requires nothing { (H.pairs h.old ≡ []) × (H.unborn h.old ≡ None) × (H.owed h.old ≡ []) }
     requires lends { LendsAll (H.lent h.old) (H.pairs h.old) }
@@ -135,7 +169,7 @@ fn long_answered<H: Holder>(alloc: Global, h: &mut H, e: Span, seen: EdgeLook) -
 }
 
 // Contracts a short edge, onto its higher end, and else onto its lower end.
-fn short_answered<H: Holder>(alloc: Global, h: &mut H, e: Span, seen: EdgeLook) -> Option<Answered>
+fn short_answered<H: Holder>(alloc: Global, h: &mut H, e: Span, seen: EdgeSeen) -> Option<Answered>
     requires alone { H.alone h.old }
     requires nothing { (H.pairs h.old ≡ []) × (H.unborn h.old ≡ None) × (H.owed h.old ≡ []) }
     requires lends { LendsAll (H.lent h.old) (H.pairs h.old) }
@@ -157,7 +191,7 @@ fn short_answered<H: Holder>(alloc: Global, h: &mut H, e: Span, seen: EdgeLook) 
 }
 
 // Flips an edge whose other diagonal is shorter.
-fn flip_answered<H: Holder>(alloc: Global, h: &mut H, e: Span, seen: EdgeLook) -> Option<Answered>
+fn flip_answered<H: Holder>(alloc: Global, h: &mut H, e: Span, seen: EdgeSeen) -> Option<Answered>
     requires alone { H.alone h.old }
     requires nothing { (H.pairs h.old ≡ []) × (H.unborn h.old ≡ None) × (H.owed h.old ≡ []) }
     requires lends { LendsAll (H.lent h.old) (H.pairs h.old) }

@@ -294,7 +294,7 @@ fn passes_made<H: Holder>(alloc: Global, h: &mut H, live: &[u32], todo: &mut Tod
     ensures finished { IsFinished (mesh_alone (H.opening h.old) (H.entries h.new)) (H.allowance h.new) result }
 {
     let mut end = h.first_new();
-    if nodes_put(h, live, todo).is_err() {
+    if nodes_put(h, live, true, todo).is_err() {
         return FinishEnd::Memory;
     }
     if let Some(finished) = worked_off(alloc, h, &mut end, todo) {

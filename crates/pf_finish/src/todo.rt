@@ -86,28 +86,42 @@ fn edge_put(bands: &[Band], star: &Star, x: u32, todo: &mut Todo) -> Result<(), 
     todo.put(span_of(star.node(), x), seen)
 }
 
-// The same for each edge of a star.
-fn star_put(bands: &[Band], star: &Star, todo: &mut Todo) -> Result<(), NoMemory> {
+// The same for each edge of a star, or only for those of which the star's node is the lower end.
+fn star_put(
+    bands: &[Band],
+    star: &Star,
+    only_rising: bool,
+    todo: &mut Todo,
+) -> Result<(), NoMemory> {
     let spokes = star.spokes();
+    let least = if only_rising { star.node() } else { 0 };
     for s in spokes {
-        edge_put(bands, star, s.right, todo)?;
-        if spoke_to(spokes, s.left).is_none() {
+        if s.right >= least {
+            edge_put(bands, star, s.right, todo)?;
+        }
+        if s.left >= least && spoke_to(spokes, s.left).is_none() {
             edge_put(bands, star, s.left, todo)?;
         }
     }
     Ok(())
 }
 
-// The same for each edge of the star of a node that is lent.
-fn lent_put<H: Holder>(h: &H, n: u32, todo: &mut Todo) -> Result<(), NoMemory> {
+// The same for the star of a node that is lent.
+fn lent_put<H: Holder>(h: &H, n: u32, only_rising: bool, todo: &mut Todo) -> Result<(), NoMemory> {
     match h.ring(n) {
-        Some(ring) => star_put(h.bands(), ring.star(), todo),
+        Some(ring) => star_put(h.bands(), ring.star(), only_rising, todo),
         None => Ok(()),
     }
 }
 
-/// Puts the edges at a node that may have a line on their stacks.
-pub fn node_put<H: Holder>(h: &mut H, n: u32, todo: &mut Todo) -> Result<(), NoMemory>
+/// Puts the edges at a node that may have a line on their stacks: all of them, or only those of which it is the lower
+/// end.
+pub fn node_put<H: Holder>(
+    h: &mut H,
+    n: u32,
+    only_rising: bool,
+    todo: &mut Todo,
+) -> Result<(), NoMemory>
     requires alone { H.alone h.old }
     requires nothing { (H.pairs h.old ≡ []) × (H.unborn h.old ≡ None) × (H.owed h.old ≡ []) }
     requires lends { LendsAll (H.lent h.old) (H.pairs h.old) }
@@ -117,7 +131,7 @@ pub fn node_put<H: Holder>(h: &mut H, n: u32, todo: &mut Todo) -> Result<(), NoM
     ensures kept { (H.entries h.new ≡ H.entries h.old) × (H.allowance h.new ≡ H.allowance h.old) }
 {
     let put = match h.hold(n) {
-        Hold::Won => lent_put(h, n, todo),
+        Hold::Won => lent_put(h, n, only_rising, todo),
         Hold::Lost { holder: _ } => Ok(()),
         Hold::Dead => Ok(()),
         Hold::Never => Ok(()),
@@ -166,8 +180,14 @@ fn neighbours_of<H: Holder>(h: &mut H, n: u32, near: &mut Vec<u32>) -> Result<()
     told
 }
 
-/// Puts the edges at these nodes that may have a line on their stacks.
-pub fn nodes_put<H: Holder>(h: &mut H, names: &[u32], todo: &mut Todo) -> Result<(), NoMemory>
+/// Puts the edges at these nodes that may have a line on their stacks: all of them, or only those of which one of them is
+/// the lower end.
+pub fn nodes_put<H: Holder>(
+    h: &mut H,
+    names: &[u32],
+    only_rising: bool,
+    todo: &mut Todo,
+) -> Result<(), NoMemory>
     requires alone { H.alone h.old }
     requires nothing { (H.pairs h.old ≡ []) × (H.unborn h.old ≡ None) × (H.owed h.old ≡ []) }
     requires lends { LendsAll (H.lent h.old) (H.pairs h.old) }
@@ -177,7 +197,7 @@ pub fn nodes_put<H: Holder>(h: &mut H, names: &[u32], todo: &mut Todo) -> Result
     ensures kept { (H.entries h.new ≡ H.entries h.old) × (H.allowance h.new ≡ H.allowance h.old) }
 {
     'names: for n in names {
-        node_put(h, *n, todo)?;
+        node_put(h, *n, only_rising, todo)?;
     }
     Ok(())
 }
@@ -194,7 +214,7 @@ fn around_put<H: Holder>(alloc: Global, h: &mut H, n: u32, todo: &mut Todo) -> R
 {
     let mut near = Vec::new(alloc);
     neighbours_of(h, n, &mut near)?;
-    nodes_put(h, &near, todo)
+    nodes_put(h, &near, false, todo)
 }
 
 // Round which nodes an operation changed stars, where a bisection made this node.
@@ -229,5 +249,5 @@ pub fn changed_put<H: Holder>(
     if a == b {
         return Ok(());
     }
-    node_put(h, b, todo)
+    node_put(h, b, false, todo)
 }

@@ -1,6 +1,6 @@
 -- The copies of a star, owner by owner.
-use Rattle.std.proofs.Common.{◌≡◌, ℕ, zero, suc, ◌+◌, ◌-◌, ◌<◌, ◌≤◌, Bool, true, false, cond, ◌==◌, List, [], ◌∷◌, ◌++◌, refl, sym, ap, ◌∙◌, subst, arith, append_assoc}
-use Rattle.std.specs.Prelude.{Option, Some, None, map, not, nat_lt, Contains}
+use Rattle.std.proofs.Common.{◌≡◌, ℕ, zero, suc, ◌+◌, ◌-◌, ◌<◌, ◌≤◌, Bool, true, false, cond, ◌==◌, List, [], ◌∷◌, ◌++◌, length, refl, sym, ap, ◌∙◌, subst, arith, append_assoc}
+use Rattle.std.specs.Prelude.{All, Option, Some, None, map, not, nat_lt, Contains}
 use Rattle.std.proofs.lemmas.Bool.Decides.{nat_tests}
 use Rattle.pf_model.specs.declared.Spoke.{Spoke}
 use Rattle.pf_model.specs.Conditions.{least_that}
@@ -8,6 +8,8 @@ use Rattle.pf_model.specs.Stars.{Star, is_sharer}
 use Rattle.pf_model.proofs.ContractClauses.{least_that-none}
 use Rattle.pf_model.proofs.Kept.{any-from, any-means}
 use Rattle.pf_model.proofs.Totals.{map-in, map-means}
+use Rattle.pf_model.proofs.Members.{here}
+use Rattle.pf_rings.proofs.Renamed.{all-member}
 use Rattle.pf_star_model.proofs.Cavities.{least_that-some}
 use Rattle.pf_core_model.specs.declared.sharer.Sharer.{Sharer}
 use Rattle.pf_core_model.proofs.Slots.{sharers_listed}
@@ -99,6 +101,26 @@ one_owner first k chunks s list next low whole =
     ∙ ap (λ (b : Bool). sharer_list k (cond b (Some s) None) ++ sharers_from (suc k) more (Some s)) shares
     ∙ ap (λ (j : ℕ). record { chunk = k; star = s } ∷ sharers_from j more (Some s)) (let z : suc k ≡ k + 1 = omega arith in z) in
     append_assoc list (record { chunk = k; star = s } ∷ []) (sharers_from (k + 1) more (Some s)) ∙ ap (λ (l : List Sharer). list ++ l) (sym rest) ∙ whole
+
+-- the one copy of a star with one owner
+pub sole_copy : (k chunks : ℕ) (s : Star) → (k < chunks) × (0 < length s.spokes) × All (λ (x : Spoke). x.owner ≡ k) s.spokes → record { chunk = k; star = s } ∷ [] ≡ sharers_in chunks (Some s)
+sole_copy k chunks s (low, some, all) =
+    let more : ℕ = chunks - (k + 1) in
+    let long : chunks ≡ k + suc more = omega arith in
+    let other : (i : ℕ) → (i ≡ k → ⊥) → is_sharer i s.spokes ≡ false = λ i apart. by_test (is_sharer i s.spokes) (λ yes_it.
+    let r = any-means (λ (x : Spoke). x.owner == i) s.spokes yes_it in
+    let e : r.0.owner ≡ i = let z : (r.0.owner == i) ≡ true = r.2 in grind (arith, nat_tests) in
+    apart (sym e ∙ all-member (λ (x : Spoke). x.owner ≡ k) s.spokes all r.0 r.1)) in
+    let own : is_sharer k s.spokes ≡ true = shares s.spokes some all in
+    sym (ap (λ (j : ℕ). sharers_from 0 j (Some s)) long
+    ∙ skip 0 k (suc more) s (λ i lower high. other i (λ e. absurd (let z : k < k = subst (λ (j : ℕ). j < k) e (omega (arith, high)) in omega (arith, z))))
+    ∙ ap (λ (j : ℕ). sharers_from j (suc more) (Some s)) (let z : 0 + k ≡ k = omega arith in z)
+    ∙ ap (λ (b : Bool). sharer_list k (cond b (Some s) None) ++ sharers_from (suc k) more (Some s)) own
+    ∙ ap (λ (l : List Sharer). record { chunk = k; star = s } ∷ l) (nothing (suc k) more s (λ i lower. other i (λ e. absurd (let z : suc k ≤ k = subst (λ (j : ℕ). suc k ≤ j) e lower in omega (arith, z))))))
+  where
+    shares : (ss : List Spoke) → 0 < length ss → All (λ (x : Spoke). x.owner ≡ k) ss → is_sharer k ss ≡ true
+    shares [] h a = absurd (omega (arith, h))
+    shares (x ∷ xs) h a = let e : x.owner ≡ k = all-member (λ (y : Spoke). y.owner ≡ k) (x ∷ xs) a x (here x xs) in any-from (λ (y : Spoke). y.owner == k) x (x ∷ xs) (here x xs) (let z : (x.owner == k) ≡ true = grind (arith, nat_tests) in z)
 
 -- the beginning of a rising list rises
 pub list_begins : (first bound : ℕ) (l m : List Sharer) → IsListFrom first bound (l ++ m) → IsListFrom first bound l

@@ -1,2 +1,3 @@
 mod ByOwner
 mod Spreading
+mod Unnamed

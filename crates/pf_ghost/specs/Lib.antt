@@ -1,3 +1,4 @@
+pub mod Copies
 pub mod Renamed
 pub mod Prepared
 pub mod Spread

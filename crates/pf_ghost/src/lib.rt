@@ -12,6 +12,6 @@ mod slots;
 
 pub use laws::spread_puts_due;
 pub use pf_core_model::Sharer;
-pub use ready::{Listed, Ready, prepare};
-pub use sharers::{Sharers, sharers_of};
+pub use ready::{Listed, Ready, prepare, prepare_owned};
+pub use sharers::{Sharers, sharers_of, sharers_of_owned};
 pub use slots::{Slots, spread};

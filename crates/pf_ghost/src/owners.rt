@@ -1,5 +1,5 @@
 //! The owners of a star's triangles, one after another.
-ghost use Rattle.std.specs.Prelude.{◌≡◌, ℕ, ◌∷◌, [], not, nat_lt, filter, fold, map, Option};
+ghost use Rattle.std.specs.Prelude.{◌≡◌, ◌<◌, ℕ, ◌∷◌, [], All, IfSome, length, not, nat_lt, filter, fold, map, Option};
 ghost use Rattle.pf_model.specs.Conditions.{lesser, least_that};
 
 use pf_model::Spoke;
@@ -34,4 +34,20 @@ pub fn owner_from(spokes: &[Spoke], first: u16) -> Option<u16>
         least = lesser_from(first, least, s.owner);
     }
     least
+}
+
+/// The owner of all the spokes, where these have one.
+pub fn sole_owner(spokes: &[Spoke]) -> Option<u16>
+    ensures { IfSome result (λ k. (0 < length spokes.now) × All (λ s. s.owner ≡ k) spokes.now) }
+{
+    if spokes.len() == 0 {
+        return None;
+    }
+    let owner = spokes[0].owner;
+    for s in spokes {
+        if s.owner != owner {
+            return None;
+        }
+    }
+    Some(owner)
 }

@@ -8,3 +8,4 @@ pub mod Parting
 pub mod Owning
 pub mod Counting
 pub mod Taking
+pub mod Gathering

@@ -4,3 +4,4 @@ pub mod Lists
 pub mod Seats
 pub mod First
 pub mod Closes
+pub mod Ends

@@ -39,7 +39,7 @@ pub struct Open {
 }
 
 // The entries of a seat that has seen all of their tickets, by rising ticket.
-fn history_of(s: &BoardSeat, alloc: Global) -> Result<Vec<Entry>, NoMemory>
+pub fn history_of(s: &BoardSeat, alloc: Global) -> Result<Vec<Entry>, NoMemory>
     requires entries { s.now.entries.entries ≡ map_of s.now.seat.me.0.entries }
     requires seen { (e : Entry) → In e s.now.seat.me.0.entries → e.ticket < s.now.seat.me.0.seen }
     ensures { IfOk result (λ l. l.items ≡ own_log s.now.seat.me.0) }

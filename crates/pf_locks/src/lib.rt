@@ -11,6 +11,7 @@
 
 mod board;
 mod closing;
+mod ending;
 mod kept;
 mod opening;
 mod rule;
@@ -18,6 +19,7 @@ mod seat;
 
 pub use board::Board;
 pub use closing::{Closed, Open};
+pub use ending::{Ended, put_star};
 pub use kept::Kept;
 pub use rule::Start;
 pub use seat::BoardSeat;

@@ -1,11 +1,13 @@
 //! A board at its start.
-ghost use Rattle.std.specs.Prelude.{◌≡◌, ℕ, ◌<◌, ◌≤◌, ◌+◌, ◌++◌, ◌∷◌, [], IfOk, map};
+ghost use Rattle.std.specs.Prelude.{◌≡◌, ℕ, ◌<◌, ◌≤◌, ◌+◌, ◌++◌, ◌∷◌, [], Contains, IfOk, OnOk, map, set, vec_len};
 ghost use Rattle.pf_model.specs.Applied.{IsFresh};
+ghost use Rattle.pf_model.specs.Stars as model;
 ghost use Rattle.pf_model.specs.Stars.{star_of};
-ghost use Rattle.pf_star_model.specs.Lent.{star_held};
 ghost use Rattle.pf_core_model.specs.Lists.{counting};
+ghost use Rattle.pf_core_model.specs.Sharers.{sharers_in};
 ghost use Rattle.pf_core_model.specs.State.{first_view};
-ghost use Rattle.pf_locks.specs.First.{start_word, start_list, opening_of};
+ghost use Rattle.pf_locks.specs.Closes.{list_at};
+ghost use Rattle.pf_locks.specs.First.{start_word, placed_lists, opening_of};
 ghost use Rattle.pf_locks.specs.Seats.{IsSeat};
 
 use crate::board::Board;
@@ -15,39 +17,18 @@ use atomic_table::{Refused, Seat, Table};
 use pf_core_model::View;
 use pf_entries::Entries;
 use pf_geom::NoMemory;
-use pf_ghost::{Sharers, sharers_of};
+use pf_ghost::{Sharers, sharers_of_owned};
 use pf_mesh::Mesh;
-use pf_model::{Band, Site};
-use pf_rings::Rings;
-use pf_star::StarSet;
+use pf_model::Band;
+use pf_rings::Star;
 use std::alloc::Global;
 
-// The names of the nodes.
-fn names_of(alloc: Global, sites: &[Site]) -> Result<Vec<u32>, NoMemory>
-    ensures { IfOk result (λ v. v.items ≡ map (λ s. s.name) sites.now) }
-{
-    let mut list = Vec::new(alloc);
-    for s in sites {
-        list.push(s.name).map_err(|_| NoMemory)?;
-    }
-    Ok(list)
-}
-
-// The stars of all nodes.
-fn stars_of(alloc: Global, m: &Mesh) -> Result<StarSet, NoMemory>
-    ensures { IfOk result (λ s. (n : ℕ) → star_held s n ≡ star_of m.now.mesh n) }
-{
-    let names = names_of(alloc, m.sites())?;
-    let set = StarSet::of(alloc, m.sites(), m.tris(), &names)?;
-    Ok(set)
-}
-
 // The word of a name: 0 where it is live, 1 where it was read and isn't, and 2 for a name that is to come.
-fn word_for(set: &StarSet, first_new: u32, n: u32) -> u64
-    ensures { result ≡ start_word (star_held set.now) first_new n }
+fn word_for(m: &Mesh, n: u32) -> u64
+    ensures { result ≡ start_word m.now.mesh n }
 {
-    if n < first_new {
-        match set.ring(n) {
+    if n < m.first_new() {
+        match m.site(n) {
             Some(_) => 0,
             None => 1,
         }
@@ -57,55 +38,77 @@ fn word_for(set: &StarSet, first_new: u32, n: u32) -> u64
 }
 
 // The words of the names, and the count of tickets.
-fn words_for(alloc: Global, set: &StarSet, first_new: u32, names: u32) -> Result<Vec<u64>, NoMemory>
-    ensures { IfOk result (λ v. v.items ≡ map (start_word (star_held set.now) first_new) (counting 0 names) ++ 0 ∷ []) }
+fn words_for(alloc: Global, m: &Mesh, names: u32) -> Result<Vec<u64>, NoMemory>
+    ensures { IfOk result (λ v. v.items ≡ map (start_word m.now.mesh) (counting 0 names) ++ 0 ∷ []) }
 {
-    let mut list = Vec::new(alloc);
+    let mut list = Vec::with_capacity(alloc, names as usize + 1).map_err(|_| NoMemory)?;
     for n in 0..names {
-        let word = word_for(set, first_new, n);
+        let word = word_for(m, n);
         list.push(word).map_err(|_| NoMemory)?;
     }
     list.push(0).map_err(|_| NoMemory)?;
     Ok(list)
 }
 
-// The copies of a name.
-fn list_for(alloc: Global, set: &StarSet, chunks: u16, n: u32) -> Result<Sharers, NoMemory>
-    ensures { IfOk result (λ l. l ≡ start_list (star_held set.now) chunks n) }
+// So many lists without copies.
+fn empty_lists(alloc: Global, names: u32) -> Result<Vec<Sharers>, NoMemory>
+    ensures len { IfOk result (λ v. vec_len v ≡ names) }
+    ensures empty { IfOk result (λ v. (n : ℕ) → list_at v.items n ≡ []) }
 {
-    match set.ring(n) {
-        Some(ring) => {
-            let list = sharers_of(alloc, ring.star(), chunks)?;
-            Ok(list)
-        }
-        None => Ok(Sharers::none(alloc)),
+    let mut lists = Vec::with_capacity(alloc, names as usize).map_err(|_| NoMemory)?;
+    for n in 0..names {
+        lists.push(Sharers::none(alloc)).map_err(|_| NoMemory)?;
     }
+    Ok(lists)
 }
 
-// The copies of the names.
-fn lists_for(
-    alloc: Global,
-    set: &StarSet,
-    chunks: u16,
-    names: u32,
-) -> Result<Vec<Sharers>, NoMemory>
-    ensures { IfOk result (λ v. v.items ≡ map (start_list (star_held set.now) chunks) (counting 0 names)) }
+// Puts a list at its name.
+fn place_list(lists: &mut Vec<Sharers>, n: u32, list: Sharers)
+    requires { n < vec_len lists.old }
+    ensures put { lists.new.items ≡ set lists.old.items n list }
+    ensures len { vec_len lists.new ≡ vec_len lists.old }
 {
-    let mut list = Vec::new(alloc);
-    for n in 0..names {
-        let copies = list_for(alloc, set, chunks, n)?;
-        list.push(copies).map_err(|_| NoMemory)?;
+    lists[n as usize] = list;
+}
+
+// Puts the copies of each star at the name of its node. The stars are moved there.
+fn place_copies(
+    alloc: Global,
+    lists: &mut Vec<Sharers>,
+    stars: Vec<Star>,
+    chunks: u16,
+) -> Result<(), NoMemory>
+    requires { (s : model.Star) → Contains stars.items s → s.node < vec_len lists.old }
+    ensures placed { OnOk result ((n : ℕ) → list_at lists.new.items n ≡ placed_lists chunks stars.items (list_at lists.old.items) n) }
+    ensures len { OnOk result (vec_len lists.new ≡ vec_len lists.old) }
+{
+    let mut left = stars;
+    'stars: while let Some(star) = left.pop() {
+        let n = star.node();
+        let list = sharers_of_owned(alloc, star, chunks)?;
+        place_list(lists, n, list);
     }
-    Ok(list)
+    Ok(())
+}
+
+// The copies of the names, which are the stars of a sweep.
+fn lists_for(alloc: Global, m: &Mesh, names: u32) -> Result<Vec<Sharers>, NoMemory>
+    requires fresh { IsFresh m.now.mesh 0 }
+    requires many { m.now.mesh.first_new ≤ names }
+    ensures len { IfOk result (λ v. vec_len v ≡ names) }
+    ensures copies { IfOk result (λ v. (n : ℕ) → list_at v.items n ≡ sharers_in m.now.mesh.chunks (star_of m.now.mesh n)) }
+{
+    let stars = m.stars(alloc)?;
+    let mut lists = empty_lists(alloc, names)?;
+    place_copies(alloc, &mut lists, stars, m.chunks())?;
+    Ok(lists)
 }
 
 // The bands once more.
 fn bands_of(alloc: Global, bands: &[Band]) -> Result<Vec<Band>, NoMemory>
     ensures { IfOk result (λ v. v.items ≡ bands.now) }
 {
-    let mut list = Vec::new(alloc);
-    list.extend_from_slice(bands).map_err(|_| NoMemory)?;
-    Ok(list)
+    Vec::from_slice(alloc, bands).map_err(|_| NoMemory)
 }
 
 // The table of a board, and the seat of its first number.
@@ -129,9 +132,8 @@ fn table_for(
     ensures seat { IfOk result (λ r. (r.1.table_id ≡ r.0.shared.table_id) × (r.1.me ≡ (first_view (opening_of m.now.mesh budget workers), []))) }
 {
     let first = m.first_new();
-    let set = stars_of(alloc, m)?;
-    let words = words_for(alloc, &set, first, first + budget)?;
-    let lists = lists_for(alloc, &set, m.chunks(), first + budget)?;
+    let lists = lists_for(alloc, m, first + budget)?;
+    let words = words_for(alloc, m, first + budget)?;
     match Table::new(
         alloc,
         words.as_slice(),

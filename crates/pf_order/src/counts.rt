@@ -20,7 +20,7 @@ pub struct Place {
 // One place's count. The tag tells it from other places with the same slot.
 #[derive(Clone, Copy, Debug, PartialEq, Eq)]
 struct Slot {
-    tag: u64,
+    tag: u32,
     count: u32,
 }
 
@@ -43,6 +43,11 @@ fn scattered(x: u64) -> u64 {
     x ^ (x / 8_589_934_592)
 }
 
+// The part of a hash by which places with the same slot are told apart.
+fn tag_of(hash: u64) -> u32 {
+    (hash / 4_294_967_296) as u32
+}
+
 // The hash of a place.
 fn hash_of(place: Place) -> u64 {
     let across = lifted(place.from.x, place.to.x);
@@ -54,10 +59,9 @@ impl Counts {
     /// No place has a count. There are about so many slots. Want of memory is the only failure.
     pub fn new(alloc: Global, wanted: usize) -> Result<Counts, NoMemory> {
         let size = wanted.max(FEWEST).min(MOST);
-        let mut slots = Vec::with_capacity(alloc, size).map_err(|_| NoMemory)?;
-        for _ in 0..size {
-            slots.push(Slot { tag: 0, count: 0 }).map_err(|_| NoMemory)?;
-        }
+        let Ok(slots) = vec![in alloc; Slot { tag: 0, count: 0 }; size] else {
+            return Err(NoMemory);
+        };
         Ok(Counts { slots })
     }
 
@@ -73,7 +77,7 @@ impl Counts {
     pub fn at(&self, place: Place) -> u32 {
         let hash = hash_of(place);
         match self.slots.get(self.slot_of(hash)) {
-            Some(slot) if slot.tag == hash => slot.count,
+            Some(slot) if slot.tag == tag_of(hash) => slot.count,
             _ => 0,
         }
     }
@@ -84,7 +88,10 @@ impl Counts {
         let count = self.at(place).saturating_add(1);
         let at = self.slot_of(hash);
         if at < self.slots.len() {
-            self.slots[at] = Slot { tag: hash, count };
+            self.slots[at] = Slot {
+                tag: tag_of(hash),
+                count,
+            };
         }
     }
 }

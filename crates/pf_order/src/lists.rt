@@ -1,48 +1,46 @@
-//! Lists of edges, each at most once, newest last.
+//! Lists of edges and of nodes, each at most once, newest last.
 ghost use Rattle.std.specs.Prelude.{◌<◌, ◌≤◌, length, IfSome};
 
 use indexmap::IndexSet;
+use pf_edges::hasher::EdgeHasher;
+use pf_edges::table::Edge;
 use pf_geom::NoMemory;
 use std::alloc::Global;
+use std::hash::BuildHasherDefault;
 use std::marker::Model;
 
-const SPAN: u64 = 4_294_967_296;
-
-// Both names in one number.
-fn packed(from: u32, to: u32) -> u64 {
-    (from as u64) * SPAN + to as u64
-}
-
-// The names in such a number.
-fn unpacked(key: u64) -> (u32, u32) {
-    ((key / SPAN) as u32, (key % SPAN) as u32)
-}
-
-/// Directed edges, each at most once. Contracts see a number for each.
+/// Directed edges, each at most once. Edges that are near each other in the mesh are near each other in memory, as in the
+/// edge table. Contracts see the edges.
 #[derive(Drop)]
 pub struct EdgeStack {
-    keys: IndexSet<u64>,
+    edges: IndexSet<Edge, BuildHasherDefault<EdgeHasher>>,
 }
 
 impl Model for EdgeStack {
-    ghost use Rattle.std.specs.Prelude.{ℕ, List};
+    ghost use Rattle.std.specs.Prelude.{List};
+    ghost use Rattle.pf_edges.specs.declared.table.Edge.{Edge};
 
-    ghost Value = { List ℕ };
+    ghost Value = { List Edge };
 
-    ghost view = { λ s. s.keys.keys };
+    ghost view = { λ s. s.edges.keys };
+}
+
+// The ends of an edge.
+fn ends_of(edge: Edge) -> (u32, u32) {
+    (edge.from, edge.to)
 }
 
 impl EdgeStack {
     /// No edges.
     pub fn new(alloc: Global) -> EdgeStack {
         EdgeStack {
-            keys: IndexSet::new(alloc),
+            edges: IndexSet::with_hasher(alloc, BuildHasherDefault::new()),
         }
     }
 
     /// Puts the edge on top, unless it stands there already. Want of memory is its only failure.
     pub fn push(&mut self, from: u32, to: u32) -> Result<(), NoMemory> {
-        match self.keys.insert(packed(from, to)) {
+        match self.edges.insert(Edge { from, to }) {
             Ok(_) => Ok(()),
             Err(_) => Err(NoMemory),
         }
@@ -53,21 +51,21 @@ impl EdgeStack {
         ensures fewer { IfSome result (λ _. length self.new < length self.old) }
         ensures most { length self.new ≤ length self.old }
     {
-        match self.keys.pop() {
-            Some(key) => Some(unpacked(key)),
+        match self.edges.pop() {
+            Some(edge) => Some(ends_of(edge)),
             None => None,
         }
     }
 
     /// How many edges there are.
     pub fn len(&self) -> usize {
-        self.keys.len()
+        self.edges.len()
     }
 
     /// Takes the edge at this place, counted from the oldest, and puts the newest in its place.
     pub fn take_at(&mut self, place: usize) -> Option<(u32, u32)> {
-        match self.keys.swap_remove_index(place) {
-            Some(key) => Some(unpacked(key)),
+        match self.edges.swap_remove_index(place) {
+            Some(edge) => Some(ends_of(edge)),
             None => None,
         }
     }
@@ -76,32 +74,47 @@ impl EdgeStack {
 /// Nodes, each at most once.
 #[derive(Drop)]
 pub struct NodeStack {
-    names: IndexSet<u32>,
+    names: Vec<u32>,
+    // Whether a node is there, by its name, as far as names were put.
+    marks: Vec<bool>,
 }
 
 impl NodeStack {
     /// No nodes.
     pub fn new(alloc: Global) -> NodeStack {
         NodeStack {
-            names: IndexSet::new(alloc),
+            names: Vec::new(alloc),
+            marks: Vec::new(alloc),
         }
     }
 
     /// Puts the node on top, unless it stands there already. Want of memory is its only failure.
     pub fn push(&mut self, n: u32) -> Result<(), NoMemory> {
-        match self.names.insert(n) {
-            Ok(_) => Ok(()),
-            Err(_) => Err(NoMemory),
+        let at = n as usize;
+        if at >= self.marks.len() {
+            self.marks.resize(at + 1, false).map_err(|_| NoMemory)?;
         }
+        if at >= self.marks.len() || self.marks[at] {
+            return Ok(());
+        }
+        self.names.push(n).map_err(|_| NoMemory)?;
+        self.marks[at] = true;
+        Ok(())
     }
 
     /// Takes the newest node.
     pub fn pop(&mut self) -> Option<u32> {
-        self.names.pop()
+        let n = self.names.pop()?;
+        let at = n as usize;
+        if at < self.marks.len() {
+            self.marks[at] = false;
+        }
+        Some(n)
     }
 
     /// Whether the node is there.
     pub fn contains(&self, n: u32) -> bool {
-        self.names.contains(&n)
+        let at = n as usize;
+        at < self.marks.len() && self.marks[at]
     }
 }

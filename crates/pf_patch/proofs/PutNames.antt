@@ -1,12 +1,17 @@
 -- Names put among rising ones.
 use Rattle.std.proofs.Common.{◌≡◌, ℕ, zero, suc, ◌<◌, ◌≤◌, List, [], ◌∷◌, ◌++◌, length, get_or, refl, sym, ◌∙◌, ap, true, false, cond, ◌⊎◌, inl, inr, arith}
-use Rattle.std.specs.Prelude.{Option, insert, nat_lt, ◌==◌}
+use Rattle.std.specs.Prelude.{Option, Some, None, min, max, insert, nat_lt, ◌==◌}
+use Rattle.std.specs.Option.{option_map}
 use Rattle.std.proofs.lemmas.Bool.Decides.{nat_tests}
 use Rattle.pf_model.specs.declared.Op.{Op}
 use Rattle.pf_model.specs.Stars.{Star}
-use Rattle.pf_star_model.specs.Cavity.{cavity_seen}
+use Rattle.pf_star_model.specs.Lent.{side_to, side_from, spokes_in}
+use Rattle.pf_star_model.specs.Judged.{left_seen, right_seen}
+use Rattle.pf_star_model.specs.Cavity.{apexes, cavity_seen}
 use Rattle.pf_star_model.specs.Patched.{put_name, risen, made_by, changed_by}
-use Rattle.pf_patch.specs.Plans.{put_names}
+use Rattle.pf_patch.specs.declared.edge.Edge.{Edge}
+use Rattle.pf_patch.specs.Plans.{edge_in, left_on, put_names, right_on}
+use Rattle.pf_patch.proofs.Standing.{first_to-side, first_from-side}
 
 lt_holds : (a b : ℕ) → a < b → nat_lt a b ≡ true
 lt_holds a b h = grind (arith, nat_tests)
@@ -61,3 +66,18 @@ risen-is (x ∷ xs) = ap (put_name x) (risen-is xs)
 -- the nodes whose stars change
 pub changed-is : (lent : ℕ → Option Star) (new : ℕ) (op : Op) → changed_by lent new op ≡ put_names (cavity_seen lent op) (put_names (made_by new op) [])
 changed-is lent new op = risen-is (cavity_seen lent op ++ made_by new op) ∙ put_names-append (cavity_seen lent op) (made_by new op) []
+
+left_on-is : (hi : ℕ) (o : Option Star) → left_on (option_map (edge_in hi) o) ≡ side_to hi (spokes_in o)
+left_on-is hi None = refl
+left_on-is hi (Some s) = first_to-side hi s.spokes
+
+right_on-is : (hi : ℕ) (o : Option Star) → right_on (option_map (edge_in hi) o) ≡ side_from hi (spokes_in o)
+right_on-is hi None = refl
+right_on-is hi (Some s) = first_from-side hi s.spokes
+
+-- the ends and the apexes of an edge
+pub edge-names : (lent : ℕ → Option Star) (a b : ℕ) (e : Option Edge) → e ≡ option_map (edge_in (max a b)) (lent (min a b))
+    → a ∷ b ∷ apexes (left_on e) ++ apexes (right_on e) ≡ a ∷ b ∷ apexes (left_seen lent (min a b) (max a b)) ++ apexes (right_seen lent (min a b) (max a b))
+edge-names lent a b e is =
+    ap (λ o. a ∷ b ∷ apexes (left_on o) ++ apexes (right_on o)) is
+    ∙ (λ i. a ∷ b ∷ apexes (left_on-is (max a b) (lent (min a b)) i) ++ apexes (right_on-is (max a b) (lent (min a b)) i))

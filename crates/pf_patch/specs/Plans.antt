@@ -1,15 +1,17 @@
 -- What an operation takes out of the held stars and puts into them, as it is read from the stars of its ends.
-use Rattle.std.specs.Prelude.{ℕ, List, [], ◌∷◌, ◌++◌, Bool, false, cond, not, ◌==◌, Option, Some, None, filter, map, min, max, pos, unwrap_or}
+use Rattle.std.specs.Prelude.{IfSome, ℕ, List, [], ◌∷◌, ◌++◌, Bool, false, cond, not, ◌==◌, Option, Some, None, filter, map, min, max, pos, unwrap_or}
 use Rattle.std.specs.Option.{option_map}
 use Rattle.pf_geom.specs.declared.Point.{Point}
-use Rattle.pf_geom.specs.Plane.{middle_of}
+use Rattle.pf_geom.specs.Plane.{IsInRange, middle_of}
+use Rattle.pf_model.specs.declared.Side.{Side}
 use Rattle.pf_model.specs.declared.Spoke.{Spoke}
 use Rattle.pf_model.specs.declared.Op.{Op}
 use Rattle.pf_model.specs.declared.Op.TheVariants.{Flip, Bisect, Contract}
 use Rattle.pf_model.specs.Stars.{Star}
 use Rattle.pf_star_model.specs.Lent.{Held, has_name}
 use Rattle.pf_star_model.specs.Patched.{put_name}
-use Rattle.pf_rings.specs.Points.{first_to, first_from}
+use Rattle.pf_rings.specs.Points.{HasSpots, first_to, first_from, left_side, right_side}
+use Rattle.pf_patch.specs.declared.edge.Edge.{Edge}
 use Rattle.pf_patch.specs.declared.tris.Corner.{Corner}
 use Rattle.pf_patch.specs.declared.tris.NewTri.{NewTri}
 use Rattle.pf_patch.specs.declared.tris.Gone.{Gone}
@@ -84,16 +86,41 @@ gone_by (Flip a b) = AtEdge (min a b) (max a b)
 gone_by (Bisect a b) = AtEdge (min a b) (max a b)
 gone_by (Contract u v) = AtNode u
 
--- the triangles at the edge from the star of its lower end, cut at the middle
+-- the triangles at the edge of a star's node to `hi`
+abbrev pub edge_in : ℕ → Star → Edge
+edge_in hi s = record { at = s.at; left = first_to hi s.spokes; right = first_from hi s.spokes }
+
+-- the triangles at the edge of an operation, from the star of its lower end; a contraction goes over its fan
+abbrev pub edge_by : (ℕ → Option Star) → Op → Option Edge
+edge_by lent (Flip a b) = option_map (edge_in (max a b)) (lent (min a b))
+edge_by lent (Bisect a b) = option_map (edge_in (max a b)) (lent (min a b))
+edge_by lent (Contract u v) = None
+
+-- what stands on each side of it
+abbrev pub left_on : Option Edge → Option Side
+left_on None = None
+left_on (Some e) = option_map left_side e.left
+
+abbrev pub right_on : Option Edge → Option Side
+right_on None = None
+right_on (Some e) = option_map right_side e.right
+
+-- the triangles at the edge, cut at the middle
+abbrev pub cut_on : ℕ → ℕ → Option Edge → List NewTri
+cut_on lo hi None = []
+cut_on lo hi (Some e) = cut (corner later (middle_or e.at (end_at e.left e.right))) (corner lo e.at) (corner hi (end_at e.left e.right)) e.left e.right
+
+-- what a flip puts in
+abbrev pub turned_on : ℕ → Option Edge → List NewTri
+turned_on lo None = []
+turned_on lo (Some e) = turned (corner lo e.at) e.left e.right
+
+-- the same by the star of the edge's lower end
 abbrev pub cut_of : ℕ → ℕ → Option Star → List NewTri
-cut_of lo hi None = []
-cut_of lo hi (Some s) =
-    let l = first_to hi s.spokes in let r = first_from hi s.spokes in
-    cut (corner later (middle_or s.at (end_at l r))) (corner lo s.at) (corner hi (end_at l r)) l r
+cut_of lo hi star = cut_on lo hi (option_map (edge_in hi) star)
 
 abbrev pub turned_of : ℕ → ℕ → Option Star → List NewTri
-turned_of lo hi None = []
-turned_of lo hi (Some s) = turned (corner lo s.at) (first_to hi s.spokes) (first_from hi s.spokes)
+turned_of lo hi star = turned_on lo (option_map (edge_in hi) star)
 
 abbrev pub moved_of : ℕ → Option Star → List NewTri
 moved_of v None = []
@@ -112,9 +139,12 @@ dead_by (Bisect a b) = None
 dead_by (Contract u v) = Some u
 
 -- the node that comes
+abbrev pub born_on : Option Edge → Corner
+born_on None = corner later origin
+born_on (Some e) = corner later (middle_or e.at (end_at e.left e.right))
+
 abbrev pub born_of : ℕ → Option Star → Corner
-born_of hi None = corner later origin
-born_of hi (Some s) = corner later (middle_or s.at (end_at (first_to hi s.spokes) (first_from hi s.spokes)))
+born_of hi star = born_on (option_map (edge_in hi) star)
 
 abbrev pub born_by : (ℕ → Option Star) → Op → Option Corner
 born_by lent (Flip a b) = None
@@ -148,3 +178,9 @@ planned_pair lent gone added dead born n = record { node = n; star = planned len
 abbrev pub put_names : List ℕ → List ℕ → List ℕ
 put_names [] ks = ks
 put_names (n ∷ ns) ks = put_name n (put_names ns ks)
+
+-- the points at an edge are in range
+pub record AreInRange (e : Edge) : Type 0 where
+  pub lower : IsInRange e.at
+  pub on_left : IfSome e.left HasSpots
+  pub on_right : IfSome e.right HasSpots

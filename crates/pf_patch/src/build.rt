@@ -7,6 +7,7 @@ ghost use Rattle.pf_star_model.specs.Laws.{CanApply, AreEndsShown};
 ghost use Rattle.pf_patch.specs.Tris.{HasCorners, HasSpot, spokes_with, star_with};
 ghost use Rattle.pf_patch.specs.Plans.{is_dead, born_at, planned, planned_pair};
 
+use crate::edge::edge_of;
 use crate::names::changed;
 use crate::plan::{Plan, plan_of};
 use crate::put::spokes_after;
@@ -104,8 +105,9 @@ pub fn patch<R: Rings>(alloc: Global, r: &R, op: Op) -> Result<Vec<NewStar>, NoM
     ensures { IfOk result (λ v. (m : Undivided) (chunk ticket : ℕ) → CanApply m record { ticket = ticket; chunk = chunk; op = op } → AreEndsShown (R.lent r.now) m op
         → m.first_new + ticket ≤ 4294967295 → v.items ≡ patch_of (R.lent r.now) 4294967295 op) }
 {
-    let plan = plan_of(alloc, r, op)?;
-    let names = changed(alloc, r, op)?;
+    let edge = edge_of(r, op);
+    let plan = plan_of(alloc, r, op, &edge)?;
+    let names = changed(alloc, r, op, &edge)?;
     let pairs = pairs_after(alloc, r, &plan, &names)?;
     Ok(pairs)
 }

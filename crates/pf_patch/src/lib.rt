@@ -2,6 +2,7 @@
 #![tactic(auto)]
 
 mod build;
+mod edge;
 mod names;
 mod plan;
 mod put;

@@ -1,5 +1,5 @@
 //! The nodes whose stars an operation changes.
-ghost use Rattle.std.specs.Prelude.{◌≡◌, ◌≤◌, [], ◌∷◌, IfOk, IfSome, OnOk, Option, None, insert, length, map};
+ghost use Rattle.std.specs.Prelude.{◌≡◌, ◌≤◌, [], ◌∷◌, ◌++◌, IfOk, IfSome, OnOk, Option, None, insert, length, map};
 ghost use Rattle.std.specs.Option.{option_map};
 ghost use Rattle.pf_model.specs.declared.Op.TheVariants.{Flip, Contract};
 ghost use Rattle.pf_model.specs.Rows.{neighbours};
@@ -7,11 +7,12 @@ ghost use Rattle.pf_star_model.specs.Cavity.{apexes, cavity_seen};
 ghost use Rattle.pf_star_model.specs.Patched as model;
 ghost use Rattle.pf_star_model.specs.Patched.{changed_by, made_by};
 ghost use Rattle.pf_rings.specs.Points.{left_side, right_side};
-ghost use Rattle.pf_patch.specs.Plans.{put_names};
+ghost use Rattle.pf_patch.specs.Plans.{edge_by, left_on, put_names, right_on};
 
+use crate::edge::{Edge, degree};
 use pf_geom::NoMemory;
 use pf_model::{Op, Spoke};
-use pf_rings::{Rings, spoke_from, spoke_to};
+use pf_rings::Rings;
 use std::alloc::Global;
 
 // Where a name belongs among these, which rise, and `None` where it is one of them.
@@ -89,14 +90,22 @@ fn put_ends(names: &mut Vec<u32>, a: u32, b: u32) -> Result<(), NoMemory>
     Ok(())
 }
 
-// The ends and the apices of an edge, and the node that is made there, if one is.
-fn edge_names<R: Rings>(r: &R, a: u32, b: u32, names: &mut Vec<u32>) -> Result<(), NoMemory>
-    ensures { OnOk result (names.new.items ≡ put_names (cavity_seen (R.lent r.now) (Flip a b)) names.old.items) }
+// Puts the apexes of the triangles at an edge among the names.
+fn put_apexes(names: &mut Vec<u32>, edge: &Option<Edge>) -> Result<(), NoMemory>
+    ensures { OnOk result (names.new.items ≡ put_names (apexes (left_on edge.now) ++ apexes (right_on edge.now)) names.old.items) }
 {
-    if let Some(ring) = r.ring(a.min(b)) {
-        put_right(names, spoke_from(ring.spokes(), a.max(b)))?;
-        put_left(names, spoke_to(ring.spokes(), a.max(b)))?;
+    if let Some(e) = edge {
+        put_right(names, e.right)?;
+        put_left(names, e.left)?;
     }
+    Ok(())
+}
+
+// The ends and the apexes of an edge.
+fn edge_names(names: &mut Vec<u32>, edge: &Option<Edge>, a: u32, b: u32) -> Result<(), NoMemory>
+    ensures { OnOk result (names.new.items ≡ put_names (a ∷ b ∷ apexes (left_on edge.now) ++ apexes (right_on edge.now)) names.old.items) }
+{
+    put_apexes(names, edge)?;
     put_ends(names, a, b)?;
     Ok(())
 }
@@ -122,12 +131,18 @@ fn fan_names<R: Rings>(r: &R, u: u32, v: u32, names: &mut Vec<u32>) -> Result<()
 }
 
 // The nodes of the operation's cavity.
-fn cavity_names<R: Rings>(r: &R, op: Op, names: &mut Vec<u32>) -> Result<(), NoMemory>
+fn cavity_names<R: Rings>(
+    r: &R,
+    op: Op,
+    edge: &Option<Edge>,
+    names: &mut Vec<u32>,
+) -> Result<(), NoMemory>
+    requires { edge.now ≡ edge_by (R.lent r.now) op }
     ensures { OnOk result (names.new.items ≡ put_names (cavity_seen (R.lent r.now) op) names.old.items) }
 {
     match op {
-        Op::Flip { a, b } => edge_names(r, a, b, names),
-        Op::Bisect { a, b } => edge_names(r, a, b, names),
+        Op::Flip { a, b } => edge_names(names, edge, a, b),
+        Op::Bisect { a, b } => edge_names(names, edge, a, b),
         Op::Contract { u, v } => fan_names(r, u, v, names),
     }
 }
@@ -143,13 +158,29 @@ fn made_names(op: Op, names: &mut Vec<u32>) -> Result<(), NoMemory>
     }
 }
 
+// How many nodes an operation may change: its ends, their apexes and the node that it makes, or the node that
+// goes and its neighbours.
+fn room_for<R: Rings>(r: &R, op: Op) -> usize {
+    match op {
+        Op::Flip { a: _, b: _ } => 4,
+        Op::Bisect { a: _, b: _ } => 5,
+        Op::Contract { u, v: _ } => degree(r, u).saturating_add(2),
+    }
+}
+
 /// The nodes whose stars the operation changes, each once, by rising name: those of its cavity, and the new
 /// node.
-pub fn changed<R: Rings>(alloc: Global, r: &R, op: Op) -> Result<Vec<u32>, NoMemory>
+pub fn changed<R: Rings>(
+    alloc: Global,
+    r: &R,
+    op: Op,
+    edge: &Option<Edge>,
+) -> Result<Vec<u32>, NoMemory>
+    requires { edge.now ≡ edge_by (R.lent r.now) op }
     ensures { IfOk result (λ v. v.items ≡ changed_by (R.lent r.now) 4294967295 op) }
 {
-    let mut names = Vec::new(alloc);
+    let mut names = Vec::with_capacity(alloc, room_for(r, op)).map_err(|_| NoMemory)?;
     made_names(op, &mut names)?;
-    cavity_names(r, op, &mut names)?;
+    cavity_names(r, op, edge, &mut names)?;
     Ok(names)
 }

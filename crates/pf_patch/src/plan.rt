@@ -1,14 +1,16 @@
 //! What an operation takes out of the held stars and puts into them.
-ghost use Rattle.std.specs.Prelude.{◌≡◌, ◌∷◌, [], ◌++◌, All, IfOk, IfSome, OnOk, Some};
+ghost use Rattle.std.specs.Prelude.{◌≡◌, ℕ, ◌∷◌, [], ◌++◌, All, IfOk, IfSome, OnOk, Option, Some};
 ghost use Rattle.pf_geom.specs.Plane.{IsInRange};
 ghost use Rattle.pf_model.specs.declared.Op.TheVariants.{Flip, Bisect, Contract};
+ghost use Rattle.pf_model.specs.Stars as model;
 ghost use Rattle.pf_star_model.specs.Lent.{has_name};
 ghost use Rattle.pf_rings.specs.Points.{HasSpots};
 ghost use Rattle.pf_patch.specs.Tris.{HasCorners, HasSpot};
 ghost use Rattle.pf_patch.specs.Plans as spec;
-ghost use Rattle.pf_patch.specs.Plans.{born_of, cut_of, moved_of, turned_of, turned, moved, middle_or, end_at, halves, left_halves, right_halves};
+ghost use Rattle.pf_patch.specs.Plans.{AreInRange, edge_by, cut_on, moved_of, turned_on, turned, moved, middle_or, end_at, halves, left_halves, right_halves};
 ghost use Rattle.pf_patch.specs.Made.{IsPlan};
 
+use crate::edge::{Edge, degree};
 use crate::tris::{Corner, Gone, NewTri};
 use pf_geom::{NoMemory, Point, middle};
 use pf_model::{Op, Spoke};
@@ -178,62 +180,59 @@ fn move_to(list: &mut Vec<NewTri>, v: Corner, spokes: &[Spoke]) -> Result<(), No
     Ok(())
 }
 
-// Adds what a flip puts in, by the star of the lower end.
-fn turn_star(list: &mut Vec<NewTri>, star: &Star, lo: u32, hi: u32) -> Result<(), NoMemory>
-    requires { list.old.items ≡ [] }
-    ensures tris { OnOk result (list.new.items ≡ turned_of lo hi (Some star.now)) }
+// Adds what a flip puts in.
+fn turn_edge(list: &mut Vec<NewTri>, edge: &Edge, lo: u32) -> Result<(), NoMemory>
+    requires list { list.old.items ≡ [] }
+    requires in_range { AreInRange edge.now }
+    ensures tris { OnOk result (list.new.items ≡ turned_on lo (Some edge.now)) }
     ensures corners { OnOk result (All HasCorners list.new.items) }
 {
     let at_lo = Corner {
         name: lo,
-        at: star.at(),
+        at: edge.at,
     };
-    let left = spoke_to(star.spokes(), hi);
-    let right = spoke_from(star.spokes(), hi);
-    turn(list, at_lo, left, right)?;
+    turn(list, at_lo, edge.left, edge.right)?;
     Ok(())
 }
 
-// The node that a bisection makes, by the star of the lower end.
-fn born_in(star: &Star, hi: u32) -> Corner
-    ensures value { result ≡ born_of hi (Some star.now) }
+// The node that a bisection makes.
+fn born_on(edge: &Edge) -> Corner
+    requires { AreInRange edge.now }
+    ensures value { result ≡ spec.born_on (Some edge.now) }
     ensures in_range { HasSpot result }
 {
-    let left = spoke_to(star.spokes(), hi);
-    let right = spoke_from(star.spokes(), hi);
-    let at_hi = end_of(left, right);
+    let at_hi = end_of(edge.left, edge.right);
     Corner {
         name: LATER,
-        at: middle_of(star.at(), at_hi),
+        at: middle_of(edge.at, at_hi),
     }
 }
 
-// Adds what a bisection puts in, by the star of the lower end.
-fn cut_star(
+// Adds what a bisection puts in.
+fn cut_edge(
     list: &mut Vec<NewTri>,
-    star: &Star,
+    edge: &Edge,
     born: Corner,
     lo: u32,
     hi: u32,
 ) -> Result<(), NoMemory>
     requires list { list.old.items ≡ [] }
-    requires born { born ≡ born_of hi (Some star.now) }
+    requires edge { AreInRange edge.now }
+    requires born { born ≡ spec.born_on (Some edge.now) }
     requires in_range { HasSpot born }
-    ensures tris { OnOk result (list.new.items ≡ cut_of lo hi (Some star.now)) }
+    ensures tris { OnOk result (list.new.items ≡ cut_on lo hi (Some edge.now)) }
     ensures corners { OnOk result (All HasCorners list.new.items) }
 {
-    let left = spoke_to(star.spokes(), hi);
-    let right = spoke_from(star.spokes(), hi);
     let at_lo = Corner {
         name: lo,
-        at: star.at(),
+        at: edge.at,
     };
     let at_hi = Corner {
         name: hi,
-        at: end_of(left, right),
+        at: end_of(edge.left, edge.right),
     };
-    halve_left(list, born, at_lo, at_hi, left)?;
-    halve_right(list, born, at_lo, at_hi, right)?;
+    halve_left(list, born, at_lo, at_hi, edge.left)?;
+    halve_right(list, born, at_lo, at_hi, edge.right)?;
     Ok(())
 }
 
@@ -254,13 +253,14 @@ fn move_star(list: &mut Vec<NewTri>, star: &Star, v: u32) -> Result<(), NoMemory
 }
 
 // What a flip does.
-fn flip_plan<R: Rings>(alloc: Global, r: &R, a: u32, b: u32) -> Result<Plan, NoMemory>
-    ensures { IfOk result (IsPlan (R.lent r.now) (Flip a b)) }
+fn flip_plan(alloc: Global, edge: &Option<Edge>, a: u32, b: u32) -> Result<Plan, NoMemory>
+    requires { IfSome edge.now AreInRange }
+    ensures { IfOk result (λ p. (lent : ℕ → Option model.Star) → edge.now ≡ edge_by lent (Flip a b) → IsPlan lent (Flip a b) p) }
 {
     let (lo, hi) = (a.min(b), a.max(b));
-    let mut added = Vec::new(alloc);
-    if let Some(ring) = r.ring(lo) {
-        turn_star(&mut added, ring.star(), lo, hi)?;
+    let mut added = Vec::with_capacity(alloc, 2).map_err(|_| NoMemory)?;
+    if let Some(e) = edge {
+        turn_edge(&mut added, e, lo)?;
     }
     Ok(Plan {
         gone: Gone::AtEdge { p: lo, q: hi },
@@ -271,18 +271,19 @@ fn flip_plan<R: Rings>(alloc: Global, r: &R, a: u32, b: u32) -> Result<Plan, NoM
 }
 
 // What a bisection does.
-fn bisect_plan<R: Rings>(alloc: Global, r: &R, a: u32, b: u32) -> Result<Plan, NoMemory>
-    ensures { IfOk result (IsPlan (R.lent r.now) (Bisect a b)) }
+fn bisect_plan(alloc: Global, edge: &Option<Edge>, a: u32, b: u32) -> Result<Plan, NoMemory>
+    requires { IfSome edge.now AreInRange }
+    ensures { IfOk result (λ p. (lent : ℕ → Option model.Star) → edge.now ≡ edge_by lent (Bisect a b) → IsPlan lent (Bisect a b) p) }
 {
     let (lo, hi) = (a.min(b), a.max(b));
-    let mut added = Vec::new(alloc);
+    let mut added = Vec::with_capacity(alloc, 4).map_err(|_| NoMemory)?;
     let mut born = Corner {
         name: LATER,
         at: ORIGIN,
     };
-    if let Some(ring) = r.ring(lo) {
-        born = born_in(ring.star(), hi);
-        cut_star(&mut added, ring.star(), born, lo, hi)?;
+    if let Some(e) = edge {
+        born = born_on(e);
+        cut_edge(&mut added, e, born, lo, hi)?;
     }
     Ok(Plan {
         gone: Gone::AtEdge { p: lo, q: hi },
@@ -296,7 +297,7 @@ fn bisect_plan<R: Rings>(alloc: Global, r: &R, a: u32, b: u32) -> Result<Plan, N
 fn contract_plan<R: Rings>(alloc: Global, r: &R, u: u32, v: u32) -> Result<Plan, NoMemory>
     ensures { IfOk result (IsPlan (R.lent r.now) (Contract u v)) }
 {
-    let mut added = Vec::new(alloc);
+    let mut added = Vec::with_capacity(alloc, degree(r, u)).map_err(|_| NoMemory)?;
     if let Some(ring) = r.ring(u) {
         move_star(&mut added, ring.star(), v)?;
     }
@@ -308,13 +309,20 @@ fn contract_plan<R: Rings>(alloc: Global, r: &R, u: u32, v: u32) -> Result<Plan,
     })
 }
 
-/// What the operation does, by the stars of its ends.
-pub fn plan_of<R: Rings>(alloc: Global, r: &R, op: Op) -> Result<Plan, NoMemory>
+/// What the operation does, by the triangles at its edge, or by the star of the node that goes.
+pub fn plan_of<R: Rings>(
+    alloc: Global,
+    r: &R,
+    op: Op,
+    edge: &Option<Edge>,
+) -> Result<Plan, NoMemory>
+    requires edge { edge.now ≡ edge_by (R.lent r.now) op }
+    requires in_range { IfSome edge.now AreInRange }
     ensures { IfOk result (IsPlan (R.lent r.now) op) }
 {
     match op {
-        Op::Flip { a, b } => flip_plan(alloc, r, a, b),
-        Op::Bisect { a, b } => bisect_plan(alloc, r, a, b),
+        Op::Flip { a, b } => flip_plan(alloc, edge, a, b),
+        Op::Bisect { a, b } => bisect_plan(alloc, edge, a, b),
         Op::Contract { u, v } => contract_plan(alloc, r, u, v),
     }
 }

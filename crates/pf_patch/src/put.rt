@@ -31,11 +31,16 @@ fn put_spoke(spokes: &mut Vec<Spoke>, spoke: Spoke) -> Result<(), NoMemory>
     Ok(())
 }
 
-// How many spokes of `n` there are after: those that stay, and those that come.
-fn count_after(gone: Gone, n: u32, spokes: &[Spoke], added: &[NewTri]) -> usize {
-    let stay = spokes.iter().filter(|s| !gone.has(n, s)).count();
-    let come = added.iter().filter(|t| has_name(t, n)).count();
-    stay.saturating_add(come)
+// Room for the spokes of `n` after: for those that come, and for those before but one, since a node whose star
+// changes loses a triangle.
+fn room_after(n: u32, spokes: &[Spoke], added: &[NewTri]) -> usize {
+    let mut room = spokes.len().saturating_sub(1);
+    for t in added {
+        if has_name(t, n) {
+            room = room.saturating_add(1);
+        }
+    }
+    room
 }
 
 // Adds the spokes of `n` that stay to an empty list.
@@ -65,7 +70,7 @@ fn put_all(spokes: &mut Vec<Spoke>, n: u32, added: &[NewTri]) -> Result<(), NoMe
     Ok(())
 }
 
-/// The spokes of `n` after some of its triangles gave way to these, in a list with room for exactly as many.
+/// The spokes of `n` after some of its triangles gave way to these, in a list with room for at most one more.
 pub fn spokes_after(
     alloc: Global,
     gone: Gone,
@@ -76,7 +81,7 @@ pub fn spokes_after(
     requires { All HasCorners added.now }
     ensures { IfOk result (λ v. v.items ≡ spokes_with gone added.now n spokes.now) }
 {
-    let room = count_after(gone, n, spokes, added);
+    let room = room_after(n, spokes, added);
     let mut list = Vec::with_capacity(alloc, room).map_err(|_| NoMemory)?;
     keep(&mut list, gone, n, spokes)?;
     put_all(&mut list, n, added)?;

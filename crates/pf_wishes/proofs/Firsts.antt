@@ -1,6 +1,6 @@
 -- By which chunks first wishes are.
-use Rattle.std.proofs.Common.{◌≡◌, ℕ, ◌<◌, List, sym, ◌∙◌, ap, subst, true, false, ◌&&◌, ◌||◌, arith}
-use Rattle.std.specs.Prelude.{Option, Some, None, All, Contains, ◌==◌}
+use Rattle.std.proofs.Common.{◌≡◌, ℕ, ◌<◌, List, subst, true, ◌||◌}
+use Rattle.std.specs.Prelude.{Option, Some, None, All, ◌==◌}
 use Rattle.std.specs.List.{list_any}
 use Rattle.std.specs.Option.{option_map}
 use Rattle.std.proofs.lemmas.Bool.{and_parts, eqb-true}
@@ -12,7 +12,7 @@ use Rattle.pf_model.proofs.Kept.{any-means}
 use Rattle.pf_star_model.proofs.Cavities.{least_that-some}
 use Rattle.pf_core_model.specs.declared.event.Asked.{Asked}
 use Rattle.pf_wishes.specs.Looks.{acting_shown, is_long_shown, is_short_shown}
-use Rattle.pf_wishes.specs.First.{is_wish, wish_at, first_wish_of}
+use Rattle.pf_wishes.specs.First.{is_wish, wish_at}
 use Rattle.pf_wishes.specs.Laws.{FirstWishIsByChunk}
 
 acts : (bands : List Band) (chunks : List ℕ) (s : Star) (x : ℕ) → is_wish bands chunks s x ≡ true → list_any (λ c. c == acting_shown s x) chunks ≡ true

@@ -1,2 +1,4 @@
 pub mod Firsts
+mod Leasts
+mod Spokes
 mod Mesh

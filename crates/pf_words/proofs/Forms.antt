@@ -98,7 +98,7 @@ none_missing (a ∷ c) kept (none, given, others) = rw given (none_missing c kep
 
 -- ---- options by their names
 
-same_text : (a b : Text) → bytes_eq a b ≡ true → a ≡ b
+pub same_text : (a b : Text) → bytes_eq a b ≡ true → a ≡ b
 same_text a b e = (bytes_eq-Decides a b).0 e
 
 long_more : (option name : Text) (options : List Text) (b : Bool) → bytes_eq option name ≡ b → (among options name ≡ true → arg_by_long (map built_option options) name ≡ Some (built_option name))

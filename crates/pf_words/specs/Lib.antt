@@ -1,3 +1,4 @@
 pub mod Grammar
 pub mod Clap
 pub mod Shown
+pub mod Pairs

@@ -6,7 +6,7 @@
 //! a function of the words alone, and [`read`] is equal to it. No text of `clap` is shown to anyone.
 #![tactic(auto)]
 
-ghost use Rattle.std.specs.Prelude.{◌≡◌, ◌≤◌, IfOk, IfSome, Some, None, codes, drop, map, option_map, option_and_then, false};
+ghost use Rattle.std.specs.Prelude.{◌≡◌, ◌≤◌, IfOk, IfSome, Some, None, codes, drop, option_map, option_and_then, false};
 ghost use Rattle.clap.specs.Simple.{app_of};
 ghost use Rattle.clap.specs.Matches.{found_of, first_value};
 ghost use Rattle.pf_words.specs.Grammar.{Given, texts_of, command_of, given_of, has_refused, number_of, number_or, number_if, adapt_form, two_form, one_form, demo_form, adapt_of, two_of, one_of, demo_of, replay, check, chunks, trace, IsBounded};
@@ -14,8 +14,11 @@ ghost use Rattle.pf_words.specs.Clap.{Finds, Matched, Reads, Says, option_rule, 
 ghost use Rattle.clap.specs.Walk.{rule_of};
 ghost use Rattle.pf_words.specs.Shown.{shown};
 
+mod laws;
+
 use clap::error::ErrorKind;
 use clap::{Arg, ArgMatches, Command};
+pub use laws::pairs_keep_their_meaning;
 use pf_geom::NoMemory;
 use pf_lex::{Token, natural};
 use std::alloc::{AllocError, Global};

@@ -1,18 +1,18 @@
 -- A seat of the crew is split off.
 use Rattle.std.proofs.Common.{◌≡◌, ◌≢◌, ◌⊎◌, ℕ, zero, suc, ◌+◌, ◌-◌, ◌<◌, ◌≤◌, Bool, true, false, cond, ◌==◌, List, [], ◌∷◌, ◌++◌, length, get_or, refl, sym, ap, ◌∙◌, subst, inl, inr, ⊎_elim, arith}
-use Rattle.std.specs.Prelude.{Option, None, slice_index, Result, Ok, Err, IfOk, OnOk}
+use Rattle.std.specs.Prelude.{slice_index, Result, Ok, Err, IfOk, OnOk}
 use Rattle.std.proofs.Math.Decide.{dec_lt}
 use Rattle.std.proofs.lemmas.Bool.Decides.{nat_tests}
 use mathlib.Core.Logic.{dite}
 use Rattle.atomic_table.specs.Seated.{TableId}
 use Rattle.pf_core_model.specs.declared.view.View.{View}
 use Rattle.pf_core_model.specs.Lists.{In, counting, without_number}
-use Rattle.pf_core_model.specs.Moves.{spares_in, but_spare, left_of, right_of}
-use Rattle.pf_core_model.specs.Core.{Opening, number_of}
+use Rattle.pf_core_model.specs.Moves.{spares_in, but_spare}
+use Rattle.pf_core_model.specs.Core.{Opening}
 use Rattle.pf_locks.specs.declared.seat.BoardSeat.{BoardSeat}
 use Rattle.pf_locks.specs.Seats.{IsSeat, IsLeastSpare, TellsSplit, flag_at}
 use Rattle.pf_workers.specs.Shares.{share_of, shares_from}
-use Rattle.pf_workers.specs.Crew.{IsIdleSeat, IsFirst, IsWorker}
+use Rattle.pf_workers.specs.Crew.{IsFirst, IsWorker}
 
 -- by the two ends of a call
 pub on_ok : {X Y : Type 0} (r : Result X Y) (A : X → Type 0) (P : Type 0) → IfOk r A → ((u : X) → A u → P) → OnOk r P

@@ -1,3 +1,4 @@
 pub mod Keeping
 pub mod Parting
 pub mod Crewing
+pub mod Fitting

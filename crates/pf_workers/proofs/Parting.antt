@@ -1,5 +1,5 @@
 -- Lists that are filtered from the first numbers.
-use Rattle.std.proofs.Common.{◌≡◌, ℕ, zero, suc, ◌+◌, ◌%◌, ◌<◌, ◌≤◌, Bool, true, false, cond, ◌==◌, List, [], ◌∷◌, ◌++◌, length, take, drop, refl, sym, ap, ◌∙◌, subst, arith, add-one, append-nil, take_all}
+use Rattle.std.proofs.Common.{◌≡◌, ℕ, zero, suc, ◌+◌, ◌%◌, ◌<◌, Bool, true, false, cond, ◌==◌, List, [], ◌∷◌, ◌++◌, length, take, drop, refl, sym, ap, ◌∙◌, arith, add-one, append-nil, take_all}
 use Rattle.std.specs.Prelude.{filter, Option, Some, None}
 use Rattle.std.proofs.lemmas.Bool.Decides.{nat_tests}
 use Rattle.std.proofs.lemmas.List.{drop_all}
@@ -9,7 +9,7 @@ use Rattle.pf_model.specs.Stars.{keeper_of}
 use Rattle.pf_workers.specs.Keepers.{kept_at, gathered}
 use Rattle.pf_workers.proofs.Keeping.{gathered_keeper}
 use Rattle.std.specs.List.{range_with_len}
-use Rattle.pf_workers.specs.Parts.{is_kept_by, is_chunk_of, chunks_for, starts_for}
+use Rattle.pf_workers.specs.Parts.{is_kept_by, starts_for}
 
 range_more : (a n : ℕ) → range_with_len a (suc n) ≡ range_with_len a n ++ (a + n) ∷ []
 range_more a zero = let e : a ≡ a + 0 = omega arith in ap (λ k. k ∷ []) e

@@ -12,6 +12,7 @@ use Rattle.pf_driver.specs.declared.driving.DriveEnd.{DriveEnd}
 use Rattle.pf_driver.specs.Visits.{HasGrown, HasVisited}
 use Rattle.pf_driver.specs.Turns.{OnDone, IsEndAt}
 use Rattle.pf_workers.specs.declared.parts.Part.{Part}
+use Rattle.pf_workers.specs.Parts.{chunks_for, starts_for}
 
 -- a holder holds and owes nothing
 pub record IsIdle (pairs : List Held) (unborn : Option ℕ) (owed : List Owed) (lent : ℕ → Option Star) : Type 0 where
@@ -22,6 +23,11 @@ pub record IsIdle (pairs : List Held) (unborn : Option ℕ) (owed : List Owed) (
 pub record IsPartOf (m : Undivided) (part : Part) : Type 0 where
   pub chunks : All (λ c. c < m.chunks) part.chunks.items
   pub start : All (λ n. n < m.first_new) part.start.items
+
+-- the part of a worker of so many: its chunks, and the nodes whose keeper is one of them
+pub record IsPartFor (m : Undivided) (workers w : ℕ) (part : Part) : Type 0 where
+  pub chunks : part.chunks.items ≡ chunks_for workers w m.chunks
+  pub start : part.start.items ≡ starts_for m workers w
 
 -- what a drive from this part tells: what was seen, what is left of the allowance, and the entries, before and after; and how it ended
 pub record HasDriven (part : Part) (o : Opening) (seen seen' : ℕ) (gained : Gain → Type 0) (rich : ℕ) (before : List Entry) (left : ℕ) (after : List Entry) (turns : ℕ) (end : DriveEnd) : Type 0 where

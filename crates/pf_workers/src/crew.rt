@@ -1,7 +1,5 @@
 //! The seats of a crew: split off one after another, and joined again.
-ghost use Rattle.std.specs.Prelude.{◌≡◌, ℕ, ◌+◌, ◌<◌, ◌≤◌, [], None, length, slice_index_or, IfOk, OnOk};
-ghost use Rattle.pf_core_model.specs.Lists.{counting, In};
-ghost use Rattle.pf_locks.specs.Seats.{IsSeat};
+ghost use Rattle.std.specs.Prelude.{◌≡◌, ℕ, ◌+◌, ◌<◌, ◌≤◌, length, slice_index_or, IfOk, OnOk};
 ghost use Rattle.pf_workers.specs.Crew.{IsFirst, IsWorker};
 
 use crate::shares::share_of;

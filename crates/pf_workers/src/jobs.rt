@@ -1,6 +1,6 @@
 //! The turns of all workers, in threads.
-ghost use Rattle.std.specs.Prelude.{◌≡◌, ℕ, ◌<◌, ◌≤◌, length, slice_index_or};
-ghost use Rattle.pf_workers.specs.Jobs.{IsIdle, IsPartOf, HasDriven};
+ghost use Rattle.std.specs.Prelude.{◌≡◌, ℕ, ◌-◌, ◌<◌, length, slice_index_or};
+ghost use Rattle.pf_workers.specs.Jobs.{IsIdle, IsPartOf, IsPartFor, HasDriven};
 
 use crate::parts::Part;
 use pf_driver::{DriveEnd, Gate, drive};
@@ -37,8 +37,9 @@ fn drive_job<'a, H: Holder, G: Gate>(alloc: Global, job: &mut Job<'a, H>, turns:
     );
 }
 
-/// Makes the turns of all jobs, each in a thread of its own where one can be made. It takes no memory but that of
-/// the turns. Each end is told by its job; a holder holds nothing before and after.
+/// Makes the turns of all jobs, each in a thread of its own where one can be made. There is a job for each worker, the
+/// one of the greatest number first, and each has its own worker's part of the mesh. It takes no memory but that of the
+/// turns. Each end is told by its job; a holder holds nothing before and after.
 pub fn drive_all<'a, R: Threads + Sync, H: Holder + Send, G: Gate + Sync>(
     rt: &R,
     alloc: Global,
@@ -47,7 +48,8 @@ pub fn drive_all<'a, R: Threads + Sync, H: Holder + Send, G: Gate + Sync>(
     gate: &G,
 )
     requires idle { (k : ℕ) (d : _) → k < length jobs.old → IsIdle (H.pairs (slice_index_or jobs.old k d).hand) (H.unborn (slice_index_or jobs.old k d).hand) (H.owed (slice_index_or jobs.old k d).hand) (H.lent (slice_index_or jobs.old k d).hand) }
-    requires part { (k : ℕ) (d : _) → k < length jobs.old → IsPartOf (H.opening (slice_index_or jobs.old k d).hand).mesh (slice_index_or jobs.old k d).part.now }
+    requires worker { (k : ℕ) (d : _) → k < length jobs.old → (slice_index_or jobs.old k d).worker ≡ length jobs.old - 1 - k }
+    requires part { (k : ℕ) (d : _) → k < length jobs.old → IsPartFor (H.opening (slice_index_or jobs.old k d).hand).mesh (length jobs.old) (length jobs.old - 1 - k) (slice_index_or jobs.old k d).part.now }
     ensures len { length jobs.new ≡ length jobs.old }
     ensures same { (k : ℕ) (d : _) → k < length jobs.old → H.same (slice_index_or jobs.old k d).hand (slice_index_or jobs.new k d).hand }
     ensures idle { (k : ℕ) (d : _) → k < length jobs.old → IsIdle (H.pairs (slice_index_or jobs.new k d).hand) (H.unborn (slice_index_or jobs.new k d).hand) (H.owed (slice_index_or jobs.new k d).hand) (H.lent (slice_index_or jobs.new k d).hand) }

@@ -1,5 +1,5 @@
 //! The keeper of each node: the least owner of a triangle at it.
-ghost use Rattle.std.specs.Prelude.{◌≡◌, ℕ, ◌<◌, cond, ◌==◌, length, IfOk, None};
+ghost use Rattle.std.specs.Prelude.{◌≡◌, ℕ, ◌<◌, length, IfOk, None};
 ghost use Rattle.pf_rings.specs.Least.{keeper_with};
 ghost use Rattle.pf_workers.specs.Keepers.{kept_at, noted, seen, gathered};
 

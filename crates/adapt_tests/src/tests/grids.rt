@@ -4,6 +4,7 @@ use super::*;
 use pf_grid::{GenErr, grid};
 use pf_mesh::Mesh;
 use pf_tables::part_text;
+use std::alloc::AllocError;
 use tri_files::{ele_text, node_text};
 
 // A shelf with the files of a mesh, and room for what an adaptation writes.
@@ -65,6 +66,37 @@ fn a_replay_writes_what_an_adaptation_wrote(rt: HostRuntime) -> Result<(), Fail>
     );
     assert!(&rt; holds(&shelf, "o.node", &node));
     assert!(&rt; holds(&shelf, "o.ele", &ele));
+    assert!(&rt; holds(&shelf, "o.part", &part));
+    Ok(())
+}
+
+// The partition that gives these triangles the chunks from 0 to 63 in turn.
+fn scattered(alloc: Global, triangles: u32) -> Result<Vec<u8>, AllocError> {
+    let mut text = Vec::new(alloc);
+    for i in 0..triangles {
+        let chunk = (i % 64) as u8;
+        if chunk >= 10 {
+            text.push(b'0' + chunk / 10)?;
+        }
+        text.push(b'0' + chunk % 10)?;
+        text.push(b'\n')?;
+    }
+    Ok(text)
+}
+
+#[test]
+fn many_chunks_and_a_large_budget_go_together(rt: HostRuntime) -> Result<(), Fail> {
+    let alloc = rt.alloc();
+    let Ok(mesh) = grid(alloc, 64) else {
+        return Err(Fail::new("there is no grid"));
+    };
+    let mut shelf = grid_shelf(alloc, &mesh, b"default 0 8192\n")?;
+    let part = scattered(alloc, 8192)?;
+    shelf.put("g.part", &part)?;
+    let words = ["adapt", "g", "o", "--ops", "100000"];
+    let said = b"operations 0\nnodes 4225\ntriangles 8192\narea2 33554432\nrest 0\nquiet\n";
+    assert_run(&rt, &words, &mut shelf, 0, said)?;
+    assert!(&rt; holds(&shelf, "o.journal", NOTHING_DONE));
     assert!(&rt; holds(&shelf, "o.part", &part));
     Ok(())
 }

@@ -1,4 +1,4 @@
-use Rattle.std.proofs.Common.{◌≡◌, ℕ, refl, sym, ◌∙◌}
+use Rattle.std.proofs.Common.{ℕ, sym, ◌∙◌}
 use Rattle.std.specs.Prelude.{Option, Some, None, IfSome}
 use Rattle.pf_model.specs.declared.Cond.{Cond}
 use Rattle.pf_model.specs.declared.Op.TheVariants.{Bisect}

@@ -1,7 +1,6 @@
-use Rattle.std.proofs.Common.{◌≡◌, ℕ, length, sym, ap, ◌∙◌, subst}
+use Rattle.std.proofs.Common.{length, sym, ap, ◌∙◌, subst}
 use Rattle.pf_core_model.specs.declared.view.View.{View}
 use Rattle.pf_core_model.specs.Core.{nodes_of}
-use Rattle.pf_core_model.specs.Moves.{released}
 use Rattle.pf_locks.specs.Lists.{list_in}
 use Rattle.board_tests.specs.Holding.{PaidBy, is_kept}
 use Rattle.board_tests.proofs.Lending.{kept_name}

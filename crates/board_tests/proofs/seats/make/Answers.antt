@@ -1,10 +1,7 @@
-use Rattle.std.proofs.Common.{◌≡◌, ℕ, ◌+◌, Bool, cond, List, sym, ap, ◌∙◌, subst, refl}
+use Rattle.std.proofs.Common.{◌≡◌, ℕ, ◌+◌, Bool, cond, List, sym, ap, ◌∙◌, subst}
 use Rattle.std.specs.Prelude.{Some, None}
-use Rattle.pf_ghost.specs.Spread.{spread_at}
 use Rattle.pf_core_model.specs.declared.view.View.{View}
-use Rattle.pf_core_model.specs.Moves.{born}
 use Rattle.pf_locks.specs.declared.kept.Kept.{Kept}
-use Rattle.pf_locks.specs.Lists.{list_in}
 use Rattle.board_tests.specs.Holding.{PaidBy}
 use Rattle.board_tests.proofs.Making.{make_paid, born_paid}
 use Rattle.board_tests.proofs.seats.make.Goals as goal

@@ -1,8 +1,5 @@
-use Rattle.std.proofs.Common.{◌≡◌, ℕ, Bool, true, cond, ◌==◌, sym, ap, ◌∙◌, subst}
-use Rattle.pf_core_model.specs.Lists.{In}
+use Rattle.std.proofs.Common.{sym, ap, ◌∙◌}
 use Rattle.pf_core_model.specs.Core.{nodes_of}
-use Rattle.pf_ghost.specs.Spread.{place_of, named_list}
-use Rattle.pf_locks.specs.Lists.{list_in}
 use Rattle.board_tests.specs.Holding.{is_kept}
 use Rattle.board_tests.proofs.Lending.{kept_name}
 use Rattle.board_tests.proofs.Giving.{node_held}

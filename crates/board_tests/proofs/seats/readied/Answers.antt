@@ -1,4 +1,4 @@
-use Rattle.std.proofs.Common.{◌≡◌, ap, ◌∙◌}
+use Rattle.std.proofs.Common.{ap, ◌∙◌}
 use Rattle.std.specs.Prelude.{List}
 use Rattle.pf_star_model.specs.Lent.{Held}
 use Rattle.pf_ghost.specs.Prepared.{ready_of}

@@ -1,4 +1,4 @@
-use Rattle.std.proofs.Common.{◌≡◌, [], length, ap, ◌∙◌, arith}
+use Rattle.std.proofs.Common.{◌≡◌, [], ap, ◌∙◌, arith}
 use Rattle.pf_core_model.specs.declared.view.View.{View}
 use Rattle.board_tests.proofs.Lending.{free_lends, none_held, spare_there}
 use Rattle.board_tests.proofs.seats.split.Goals as goal

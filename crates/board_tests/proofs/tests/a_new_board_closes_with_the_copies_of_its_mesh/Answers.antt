@@ -1,4 +1,4 @@
-use Rattle.std.proofs.Common.{◌≡◌, ℕ, ◌<◌, [], ◌∷◌, sym, subst, inl, arith}
+use Rattle.std.proofs.Common.{ℕ, ◌<◌, [], ◌∷◌, sym, subst, inl, arith}
 use Rattle.pf_core_model.specs.declared.view.View.{View}
 use Rattle.pf_core_model.specs.Lists.{In}
 use Rattle.pf_core_model.specs.Guards.{IsAlone}

@@ -1,4 +1,4 @@
-use Rattle.std.proofs.Common.{◌≡◌, refl, sym, subst, inl}
+use Rattle.std.proofs.Common.{refl, sym, subst, inl}
 use Rattle.pf_core_model.specs.declared.view.View.{View}
 use Rattle.pf_core_model.specs.Lists.{In}
 use Rattle.pf_core_model.specs.Moves.{spares_in}

@@ -4,7 +4,7 @@ use Rattle.pf_star_model.specs.Lent.{star_held}
 use Rattle.pf_hand.specs.declared.hand.Hand.{Hand}
 use Rattle.pf_hand.specs.Hands.{lent_pairs}
 use Rattle.pf_workers.specs.declared.jobs.Job.{Job}
-use Rattle.pf_workers.specs.Jobs.{IsIdle, IsPartOf}
+use Rattle.pf_workers.specs.Jobs.{IsIdle, IsPartFor}
 use Rattle.pf_locks.specs.declared.board.Board.{Board}
 use Rattle.pf_adapt.specs.Crew.{IsNumbered}
 use Rattle.pf_adapt.proofs.Places.{AtEach}
@@ -20,8 +20,13 @@ drive_all-requires-clause-idle g c κs within =
 pub drive_all-requires-clause-part : goal.drive_all-requires-clause-part
 drive_all-requires-clause-part g c κs within =
     let read : c.in_ok-jobs.jobs.items ≡ c.deref_mut.result.now = search rules in
-    subst (λ (xs : List (Job Hand)). AtEach xs (λ k j. IsPartOf j.hand.board.now.table.shared.key.mesh j.part.now)) read
-    (λ k d low. subst (λ (b : Board). IsPartOf b.table.shared.key.mesh (slice_index_or c.in_ok-jobs.jobs.items k d).part.now) (sym (c.in_ok-jobs.ensures.board k d low)) (c.in_ok-jobs.ensures.part k d low))
+    subst (λ (xs : List (Job Hand)). AtEach xs (λ k j. IsPartFor j.hand.board.now.table.shared.key.mesh (length xs) (length xs - 1 - k) j.part.now)) read
+    (λ k d low. subst (λ (b : Board). IsPartFor b.table.shared.key.mesh (length c.in_ok-jobs.jobs.items) (length c.in_ok-jobs.jobs.items - 1 - k) (slice_index_or c.in_ok-jobs.jobs.items k d).part.now) (sym (c.in_ok-jobs.ensures.board k d low)) (c.in_ok-jobs.ensures.part k d low))
+
+pub drive_all-requires-clause-worker : goal.drive_all-requires-clause-worker
+drive_all-requires-clause-worker g c κs within =
+    let read : c.in_ok-jobs.jobs.items ≡ c.deref_mut.result.now = search rules in
+    subst (λ (xs : List (Job Hand)). AtEach xs (λ k j. j.worker ≡ length xs - 1 - k)) read c.in_ok-jobs.ensures.worker
 
 pub joined-requires-clause-board : goal.joined-requires-clause-board
 joined-requires-clause-board g c =

@@ -1,8 +1,8 @@
 use Rattle.std.proofs.Common.{◌≡◌, [], ◌∷◌, ◌++◌, drop, flat_map, map}
 use Rattle.pf_locks.specs.Closes.{shown_copy}
-use Rattle.pf_assemble.specs.Divided.{copies_in}
+use Rattle.pf_assemble.specs.Placed.{copy_at}
 use Rattle.pf_assemble.proofs.copies.put_copies.Given as goal
 
--- what was put, and what the stars that are left give
-abbrev pub invariant-loop-star : goal.invariant-loop-star
-invariant-loop-star l = map shown_copy l.list.items ++ flat_map (λ s. copies_in l.chunk (s ∷ [])) (drop l.star-index l.stars) ≡ map shown_copy l.fn.list.items ++ flat_map (λ s. copies_in l.chunk (s ∷ [])) l.stars
+-- what was put, and the copies that are left
+abbrev pub invariant-places : goal.invariant-places
+invariant-places l = map shown_copy l.list.items ++ flat_map (λ p. copy_at l.chunk l.stars p ∷ []) (drop l.place-index l.places) ≡ map shown_copy l.fn.list.items ++ flat_map (λ p. copy_at l.chunk l.stars p ∷ []) l.places

@@ -1,4 +1,4 @@
-use Rattle.std.proofs.Common.{◌≡◌, ◌∙◌}
+use Rattle.std.proofs.Common.{◌∙◌}
 use Rattle.std.specs.Prelude.{Some}
 use Rattle.pf_model.specs.Lengths.{edge_of}
 use Rattle.pf_rules.specs.Lengths.{span_value}

@@ -1,4 +1,4 @@
-use Rattle.std.proofs.Common.{◌≡◌, refl}
+use Rattle.std.proofs.Common.{refl}
 use Rattle.pf_rules.specs.Lengths.{span_value}
 use Rattle.pf_finish.proofs.Wishing.{near_alone, flip_wish}
 use Rattle.pf_finish.proofs.edges.flip_answered.Goals as goal

@@ -1,6 +1,4 @@
 use Rattle.std.proofs.Common.{◌≡◌, [], ◌∷◌, sym, ◌∙◌, ap, List}
-use Rattle.std.specs.Prelude.{Option}
-use Rattle.pf_model.specs.Stars.{Star}
 use Rattle.pf_star_model.specs.Lent.{Held, star_held}
 use Rattle.pf_core_model.specs.Core.{Opening}
 use Rattle.pf_holder.specs.Facts.{won_pair}

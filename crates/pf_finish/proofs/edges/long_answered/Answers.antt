@@ -1,4 +1,3 @@
-use Rattle.std.proofs.Common.{◌≡◌}
 use Rattle.pf_rules.specs.Lengths.{span_value}
 use Rattle.pf_holder.specs.Facts.{mesh_alone}
 use Rattle.pf_finish.proofs.Wishing.{not_not, mesh_same, near_alone, long_wish, end_is_edge}

@@ -1,4 +1,4 @@
-use Rattle.std.proofs.Common.{◌≡◌, ◌∙◌, refl}
+use Rattle.std.proofs.Common.{◌∙◌, refl}
 use Rattle.pf_model.specs.declared.Op.TheVariants.{Contract}
 use Rattle.pf_rules.specs.Lengths.{span_value}
 use Rattle.pf_holder.specs.Facts.{mesh_alone}

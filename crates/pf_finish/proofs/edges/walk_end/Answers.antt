@@ -1,11 +1,11 @@
-use Rattle.std.proofs.Common.{◌≡◌, sym, ◌∙◌, ap, subst}
+use Rattle.std.proofs.Common.{◌∙◌, ap, subst}
 use Rattle.std.specs.Prelude.{Option, Some, None}
 use Rattle.std.specs.Option.{option_map}
 use Rattle.pf_model.specs.Mesh.{Undivided}
 use Rattle.pf_model.specs.Lengths.{edge_of}
 use Rattle.pf_rules.specs.declared.lengths.Span.{Span}
 use Rattle.pf_rules.specs.Lengths.{span_value}
-use Rattle.pf_wishes.specs.declared.edge_sights.EdgeLook.{EdgeLook}
+use Rattle.pf_finish.specs.declared.edges.EdgeSeen.{EdgeSeen}
 use Rattle.pf_holder.specs.Facts.{mesh_alone}
 use Rattle.pf_finish.specs.Seen.{LooksAt}
 use Rattle.pf_finish.proofs.Walking.{at-end, at-falls, at-edge, at-next}
@@ -48,6 +48,6 @@ unreachable-requires g c =
     let h1 = c.walk.h in
     let i = c.walk.invariant in
     let same = mesh_same (m.opening h0) (m.opening h1) (m.entries h0) (m.entries h1) (t.same_opening h0 h1 i.0) i.3.0 in
-    let none : Option EdgeLook = None in
+    let none : Option EdgeSeen = None in
     at-edge (mesh_alone (m.opening h0) (m.entries h0)) (span_value c.args.e) (span_value c.walk.at) (span_value c.in-Some.next) c.walk.look i.4 (ap (λ (o : Option Span). option_map span_value o) c.in-Some.is)
-    (subst (λ (x : Undivided). LooksAt x (edge_of c.in-Some.next.lo c.in-Some.next.hi) none) same (subst (λ (o : Option EdgeLook). LooksAt (mesh_alone (m.opening h1) (m.entries h1)) (edge_of c.in-Some.next.lo c.in-Some.next.hi) o) c.in-None.is c.edge_seen.ensures.seen))
+    (subst (λ (x : Undivided). LooksAt x (edge_of c.in-Some.next.lo c.in-Some.next.hi) none) same (subst (λ (o : Option EdgeSeen). LooksAt (mesh_alone (m.opening h1) (m.entries h1)) (edge_of c.in-Some.next.lo c.in-Some.next.hi) o) c.in-None.is c.edge_seen.ensures.seen))

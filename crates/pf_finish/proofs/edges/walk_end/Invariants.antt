@@ -1,4 +1,4 @@
-use Rattle.std.proofs.Common.{◌≡◌, [], length}
+use Rattle.std.proofs.Common.{◌≡◌, []}
 use Rattle.std.specs.Prelude.{None}
 use Rattle.pf_rules.specs.Lengths.{span_value}
 use Rattle.pf_holder.specs.Facts.{LendsAll, mesh_alone}

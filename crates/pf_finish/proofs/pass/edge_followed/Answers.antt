@@ -1,4 +1,4 @@
-use Rattle.std.proofs.Common.{◌≡◌, ◌∙◌}
+use Rattle.std.proofs.Common.{◌∙◌}
 use Rattle.pf_finish.proofs.Steps.{step-then, step-still}
 use Rattle.pf_finish.proofs.pass.edge_followed.Goals as goal
 

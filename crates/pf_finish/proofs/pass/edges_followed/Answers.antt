@@ -1,4 +1,4 @@
-use Rattle.std.proofs.Common.{◌≡◌, ℕ, ◌<◌, ◌≤◌, ◌⊎◌, inl, inr, ◌∙◌, subst, length, get_or, sym, arith}
+use Rattle.std.proofs.Common.{ℕ, subst, get_or, arith}
 use Rattle.pf_model.specs.Mesh.{Undivided}
 use Rattle.pf_holder.specs.Facts.{mesh_alone}
 use Rattle.pf_model.specs.Lengths.{edge_of}

@@ -1,10 +1,10 @@
-use Rattle.std.proofs.Common.{◌≡◌, ℕ, ◌<◌, ◌≤◌, ◌⊎◌, inl, inr, ◌∙◌, subst, length, get_or, sym, arith}
+use Rattle.std.proofs.Common.{ℕ, subst, get_or, arith}
 use Rattle.pf_model.specs.Mesh.{Undivided}
 use Rattle.pf_holder.specs.Facts.{mesh_alone}
 use Rattle.pf_finish.specs.Covers.{IsSettledAt}
 use Rattle.pf_finish.proofs.Steps.{step-then, both-stayed}
 use Rattle.pf_finish.proofs.Wishing.{mesh_same}
-use Rattle.pf_finish.proofs.Quiet.{each-more, name-more}
+use Rattle.pf_finish.proofs.Quiet.{each-more}
 use Rattle.pf_finish.proofs.pass.named_followed.Goals as goal
 
 pub returns-in-Some-clause-step : goal.returns-in-Some-clause-step

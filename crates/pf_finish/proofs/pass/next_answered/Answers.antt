@@ -1,4 +1,3 @@
-use Rattle.std.proofs.Common.{◌≡◌}
 use Rattle.pf_finish.proofs.Steps.{step-then}
 use Rattle.pf_finish.proofs.pass.next_answered.Goals as goal
 

@@ -1,8 +1,6 @@
-use Rattle.std.proofs.Common.{◌≡◌, ◌∙◌, ℕ, sym, subst, List}
-use Rattle.std.specs.Prelude.{Contains}
+use Rattle.std.proofs.Common.{◌∙◌, ℕ, sym, subst, List}
 use Rattle.pf_model.specs.Lengths.{edge_of}
 use Rattle.pf_model.specs.Mesh.{Undivided}
-use Rattle.pf_holder.specs.Facts.{mesh_alone}
 use Rattle.pf_finish.specs.Seen.{IsSettled}
 use Rattle.pf_finish.specs.Wished.{HasWishes}
 use Rattle.pf_finish.proofs.Wishing.{mesh_same, ok_told}

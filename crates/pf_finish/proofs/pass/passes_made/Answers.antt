@@ -1,4 +1,4 @@
-use Rattle.std.proofs.Common.{◌≡◌, ◌∙◌, ℕ, sym, subst}
+use Rattle.std.proofs.Common.{ℕ, sym, subst}
 use Rattle.pf_finish.specs.Covers.{Covers}
 use Rattle.pf_finish.proofs.Steps.{pass-more, pass-covers, step-after}
 use Rattle.pf_finish.proofs.Quiet.{covers-given}

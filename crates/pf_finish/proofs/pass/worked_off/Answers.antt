@@ -1,4 +1,3 @@
-use Rattle.std.proofs.Common.{◌≡◌, ◌∙◌}
 use Rattle.pf_finish.proofs.Steps.{step-then, step-still}
 use Rattle.pf_finish.proofs.pass.worked_off.Goals as goal
 

@@ -1,7 +1,4 @@
-use Rattle.std.proofs.Common.{◌≡◌, ◌≢◌, ◌∙◌, sym, subst, arith}
-use Rattle.std.specs.Prelude.{Some, None}
-use Rattle.pf_model.specs.declared.Op.{Op}
-use Rattle.pf_core_model.specs.declared.answer.Answer.{Answer}
+use Rattle.std.proofs.Common.{◌∙◌, sym, arith}
 use Rattle.pf_finish.proofs.Tried.{fails_told, refusal_fails}
 use Rattle.pf_finish.proofs.tries.wish_tried.Goals as goal
 

@@ -1,5 +1,4 @@
 use Rattle.std.proofs.Common.{◌≡◌, [], ◌∷◌, ◌∙◌, ap, subst, List}
-use Rattle.pf_model.specs.declared.Band.{Band}
 use Rattle.pf_star_model.specs.Lent.{Held, star_held}
 use Rattle.pf_core_model.specs.Core.{Opening}
 use Rattle.pf_holder.specs.Facts.{won_pair}

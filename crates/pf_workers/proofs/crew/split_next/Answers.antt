@@ -1,4 +1,4 @@
-use Rattle.std.proofs.Common.{◌≡◌, ℕ, ◌+◌}
+use Rattle.std.proofs.Common.{◌≡◌, ◌+◌}
 use Rattle.pf_locks.specs.declared.seat.BoardSeat.{BoardSeat}
 use Rattle.pf_locks.specs.Seats.{IsSeat, TellsSplit}
 use Rattle.pf_workers.specs.Crew.{IsFirst, IsWorker}

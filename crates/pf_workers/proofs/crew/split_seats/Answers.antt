@@ -1,4 +1,4 @@
-use Rattle.std.proofs.Common.{rules, ◌≡◌, ℕ, ◌+◌, List, [], ◌∷◌, ◌++◌, arith}
+use Rattle.std.proofs.Common.{rules, ◌≡◌, ℕ, ◌+◌, [], ◌∷◌, ◌++◌, arith}
 use Rattle.pf_locks.specs.declared.seat.BoardSeat.{BoardSeat}
 use Rattle.pf_workers.specs.Crew.{IsWorker}
 use Rattle.pf_workers.proofs.Crewing.{seat_more, grown_by}

@@ -1,4 +1,4 @@
-use Rattle.std.proofs.Common.{rules, ◌≡◌, List, [], ◌∷◌, ◌++◌, ◌%◌, ap, ◌∙◌}
+use Rattle.std.proofs.Common.{rules, ◌≡◌, [], ◌∷◌, ◌++◌, ◌%◌, ap, ◌∙◌}
 use Rattle.pf_workers.specs.Parts.{is_chunk_of}
 use Rattle.pf_workers.proofs.Parting.{number_taken, number_left, is_same, is_other}
 use Rattle.pf_workers.proofs.parts.chunks_of.Goals.{then-chunk-workers+in_ok-map_err, else-chunk-workers}
