@@ -5,14 +5,18 @@
 #
 # A time is the best of RUNS runs (5 if unset) of a whole process with TRIES tries (400000 if unset) in all, less that of one with
 # no tries. Both hold making the grid and the board, and closing it; a run with tries also replays them, so the rates are a little
-# low. The program is crates/board_speed; it is proved and built first where that is still to be done.
+# low. The program is crates/board_speed; it is proved and built first where that is still to be done, unless BOARD_SPEED names one
+# that is built.
 set -euo pipefail
 cd "$(dirname "$0")/.."
 runs=${RUNS:-5}
 tries=${TRIES:-400000}
 cells=${CELLS:-100}
-(cd crates/board_speed && rt run >/dev/null 2>&1) || true
-program=$PWD/crates/board_speed/out/board_speed
+if [[ -z ${BOARD_SPEED:-} ]]; then
+    (cd crates/board_speed && rt run >/dev/null 2>&1) || true
+    BOARD_SPEED=$PWD/crates/board_speed/out/board_speed
+fi
+program=$BOARD_SPEED
 [[ -x $program ]] || { echo "crates/board_speed isn't built" >&2; exit 1; }
 
 # The best time of a run in microseconds, and its operations.
