@@ -5,12 +5,15 @@
 #
 # A time is the best of RUNS runs (5 if unset) of a whole process. `Build` is what building the mesh adds to making the grid,
 # and a list half of what two lists more add. The program is crates/rest_speed; it is proved and built first where that is still
-# to be done.
+# to be done, unless REST_SPEED names one that is built.
 set -euo pipefail
 cd "$(dirname "$0")/.."
 runs=${RUNS:-5}
-(cd crates/rest_speed && rt run -- 2 none 0 >/dev/null 2>&1) || true
-program=$PWD/crates/rest_speed/out/rest_speed
+if [[ -z ${REST_SPEED:-} ]]; then
+    (cd crates/rest_speed && rt run -- 2 none 0 >/dev/null 2>&1) || true
+    REST_SPEED=$PWD/crates/rest_speed/out/rest_speed
+fi
+program=$REST_SPEED
 [[ -x $program ]] || { echo "crates/rest_speed isn't built" >&2; exit 1; }
 
 # The best time of a run in microseconds.
