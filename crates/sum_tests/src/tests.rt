@@ -12,39 +12,6 @@ use pf_mesh::{ApplyErr, BuildErr, Entry, Mesh, Op, Tri, build};
 use std::alloc::Global;
 use std::test::Fail;
 
-// Two triangles on the edge from 0 to 1.
-const KITE: [Point; 4] = [
-    Point { x: 0, y: 0 },
-    Point { x: 8, y: 0 },
-    Point { x: 4, y: 2 },
-    Point { x: 4, y: -2 },
-];
-
-const SQUARE: [Point; 4] = [
-    Point { x: 0, y: 0 },
-    Point { x: 4, y: 0 },
-    Point { x: 4, y: 4 },
-    Point { x: 0, y: 4 },
-];
-
-const WIDE_KITE: [Point; 5] = [
-    Point { x: 0, y: 0 },
-    Point { x: 8, y: 0 },
-    Point { x: 4, y: 2 },
-    Point { x: 4, y: -2 },
-    Point { x: 12, y: 0 },
-];
-
-// Two triangles beside one another over a straight boundary edge from 0 to 2, which has 1 on it.
-const TENT: [Point; 4] = [
-    Point { x: 0, y: 0 },
-    Point { x: 4, y: 0 },
-    Point { x: 8, y: 0 },
-    Point { x: 4, y: 4 },
-];
-
-const TENT_TRIS: [[u32; 3]; 2] = [[0, 1, 3], [1, 2, 3]];
-
 // The mesh of these, before the first operation.
 fn opened(alloc: Global, points: &[Point], tris: &[[u32; 3]]) -> Result<Mesh, BuildErr>
     requires few_points { length points.now ≤ 1000 }
