@@ -3,7 +3,7 @@ ghost use Rattle.std.specs.Prelude.{◌≡◌, ◌≤◌, ◌∷◌, [], IfOk};
 ghost use Rattle.pf_model.specs.Applied.{IsFresh};
 ghost use Rattle.pf_model.specs.Conforming.{HasDefault};
 
-use pf_assemble::{divide, end_board, undivided};
+use pf_assemble::{assemble, divide, end_board, undivided};
 use pf_geom::Point;
 use pf_locks::Board;
 use pf_mesh::{Band, Mesh, build};
@@ -112,6 +112,20 @@ fn a_board_that_ends_gives_its_mesh(rt: HostRuntime) -> Result<(), Fail> {
     let mesh = square(alloc)?;
     let (board, s) = Board::new(alloc, &mesh, 2, 1)?;
     let (again, journal) = end_board(alloc, board, s)?;
+    assert!(rt; is_square(&again));
+    assert!(rt; journal.len() == 0);
+    Ok(())
+}
+
+#[test]
+fn a_closed_board_is_put_together(rt: HostRuntime) -> Result<(), Fail> {
+    let alloc = rt.alloc();
+    let mesh = square(alloc)?;
+    let (board, s) = Board::new(alloc, &mesh, 2, 1)?;
+    let Ok(closed) = board.close(alloc, s) else {
+        return Err("closed".into());
+    };
+    let (again, journal) = assemble(alloc, closed)?;
     assert!(rt; is_square(&again));
     assert!(rt; journal.len() == 0);
     Ok(())

@@ -7,7 +7,6 @@ ghost use Rattle.pf_core.specs.Shown.{IsShown};
 use pf_core::{Event, State, Verdict, Word, step};
 use pf_geom::{NoMemory, Point};
 use pf_mesh::{Band, Entry, Mesh, Op, Tri, build};
-use pf_rings::Star;
 use std::alloc::Global;
 use std::process::Abort;
 use std::test::Fail;
@@ -48,154 +47,155 @@ fn kite(alloc: Global) -> Result<Mesh, Fail>
     Ok(mesh)
 }
 
-// The state of one actor over the mesh, before the first event.
-fn begun(alloc: Global, mesh: &Mesh) -> Result<State, NoMemory>
-    requires fresh { IsFresh mesh.now.mesh 0 }
-    requires few { mesh.now.mesh.first_new ≤ 1000 }
+// The state of one actor over the kite, before the first event.
+fn begun(alloc: Global) -> Result<State, Fail>
     ensures { IfOk result (λ s. IsShown s) }
 {
-    let state = State::new(alloc, mesh, 1, 1)?;
+    let mesh = kite(alloc)?;
+    let state = State::new(alloc, &mesh, 1, 1)?;
     Ok(state)
 }
 
-// Lets the events take place one after another, and says whether each did.
-fn all_taken(alloc: Global, state: &mut State, events: &[Event]) -> Result<bool, NoMemory>
+// The event takes place.
+fn take<R: Abort + AllocGlobal>(rt: &R, state: &mut State, event: Event) -> Result<(), NoMemory>
     requires { IsShown state.old }
     ensures { OnOk result (IsShown state.new) }
 {
-    let mut all = true;
-    for event in events {
-        if step(alloc, state, *event)? == Verdict::Ignored {
-            all = false;
-        }
-    }
-    Ok(all)
+    let verdict = step(rt.alloc(), state, event)?;
+    assert!(rt; verdict != Verdict::Ignored, "{event:?}");
+    Ok(())
 }
 
-// The copy has these triangles: the right, the left and the owner of each.
-fn assert_copy<R: Abort + AllocGlobal>(
+// These events take place one after another.
+fn take_all<R: Abort + AllocGlobal>(
     rt: &R,
-    copy: Option<&Star>,
-    spokes: &[(u32, u32, u16)],
-) -> Result<(), Fail> {
-    let mut found = Vec::new(rt.alloc());
-    if let Some(star) = copy {
+    state: &mut State,
+    events: &[Event],
+) -> Result<(), NoMemory>
+    requires { IsShown state.old }
+    ensures { OnOk result (IsShown state.new) }
+{
+    for event in events {
+        take(rt, state, *event)?;
+    }
+    Ok(())
+}
+
+// The actor takes every node of the kite, and flips its edge.
+fn hold_and_flip<R: Abort + AllocGlobal>(rt: &R, state: &mut State) -> Result<(), NoMemory>
+    requires { IsShown state.old }
+    ensures { OnOk result (IsShown state.new) }
+{
+    take_all(rt, state, &[0, 1, 2, 3].map(|n| Event::Lock { a: 0, n }))?;
+    let (chunk, op) = (0, Op::Flip { a: 0, b: 1 });
+    take(rt, state, Event::Commit { a: 0, chunk, op })
+}
+
+// The actor puts the copies that it owes, of one node after another.
+fn put<R: Abort + AllocGlobal>(rt: &R, state: &mut State) -> Result<(), NoMemory>
+    requires { IsShown state.old }
+    ensures { OnOk result (IsShown state.new) }
+{
+    for n in 0..4 {
+        take_all(
+            rt,
+            state,
+            &[0, 1].map(|chunk| Event::Push { a: 0, chunk, n }),
+        )?;
+    }
+    Ok(())
+}
+
+// The actor gives every node back.
+fn give_back<R: Abort + AllocGlobal>(rt: &R, state: &mut State) -> Result<(), NoMemory>
+    requires { IsShown state.old }
+    ensures { OnOk result (IsShown state.new) }
+{
+    take_all(rt, state, &[0, 1, 2, 3].map(|n| Event::Release { a: 0, n }))
+}
+
+// The triangles of a chunk's copy of a node: the right, the left and the owner of each.
+fn spokes_in(
+    alloc: Global,
+    state: &State,
+    chunk: u16,
+    n: u32,
+) -> Result<Vec<(u32, u32, u16)>, Fail> {
+    let mut found = Vec::new(alloc);
+    if let Some(star) = state.copy(chunk, n) {
         for s in star.spokes() {
             found.push((s.right, s.left, s.owner))?;
         }
     }
-    assert_eq!(rt; found.as_slice(), spokes);
+    Ok(found)
+}
+
+// Each of these rows (chunk, node, spokes) names a copy with these triangles.
+fn assert_copies<R: Abort + AllocGlobal>(
+    rt: &R,
+    state: &State,
+    rows: &[(u16, u32, &[(u32, u32, u16)])],
+) -> Result<(), Fail> {
+    for (chunk, n, spokes) in rows {
+        let found = spokes_in(rt.alloc(), state, *chunk, *n)?;
+        assert_eq!(rt; (*chunk, *n, found.as_slice()), (*chunk, *n, *spokes));
+    }
     Ok(())
 }
 
-const HOLD: [Event; 5] = [
-    Event::Lock { a: 0, n: 0 },
-    Event::Lock { a: 0, n: 1 },
-    Event::Lock { a: 0, n: 2 },
-    Event::Lock { a: 0, n: 3 },
-    Event::Commit {
-        a: 0,
-        chunk: 0,
-        op: Op::Flip { a: 0, b: 1 },
-    },
-];
+// The triangles with free corners are these.
+fn assert_free_part<R: Abort + AllocGlobal>(
+    rt: &R,
+    state: &State,
+    tris: &[Tri],
+) -> Result<(), NoMemory>
+    requires { IsShown state.now }
+{
+    assert_eq!(rt; state.free_part(rt.alloc())?.as_slice(), tris);
+    Ok(())
+}
 
-const PUT: [Event; 8] = [
-    Event::Push {
-        a: 0,
-        chunk: 0,
-        n: 0,
-    },
-    Event::Push {
-        a: 0,
-        chunk: 1,
-        n: 0,
-    },
-    Event::Push {
-        a: 0,
-        chunk: 0,
-        n: 1,
-    },
-    Event::Push {
-        a: 0,
-        chunk: 1,
-        n: 1,
-    },
-    Event::Push {
-        a: 0,
-        chunk: 0,
-        n: 2,
-    },
-    Event::Push {
-        a: 0,
-        chunk: 1,
-        n: 2,
-    },
-    Event::Push {
-        a: 0,
-        chunk: 0,
-        n: 3,
-    },
-    Event::Push {
-        a: 0,
-        chunk: 1,
-        n: 3,
-    },
-];
+// The copies before the flip is put: those of the two triangles on the edge from 0 to 1.
+fn assert_old_copies<R: Abort + AllocGlobal>(rt: &R, state: &State) -> Result<(), Fail> {
+    assert_copies(rt, state, &[(1, 0, &[(1, 2, 0), (3, 1, 1)])])
+}
 
-const GIVE_BACK: [Event; 4] = [
-    Event::Release { a: 0, n: 0 },
-    Event::Release { a: 0, n: 1 },
-    Event::Release { a: 0, n: 2 },
-    Event::Release { a: 0, n: 3 },
-];
+// The copies after it.
+fn assert_new_copies<R: Abort + AllocGlobal>(rt: &R, state: &State) -> Result<(), Fail> {
+    assert!(rt; state.copy(1, 0).is_none());
+    assert!(rt; state.copy(0, 1).is_none());
+    assert_copies(
+        rt,
+        state,
+        &[
+            (0, 0, &[(3, 2, 0)]),
+            (1, 1, &[(2, 3, 1)]),
+            (0, 2, &[(0, 3, 0), (3, 1, 1)]),
+            (1, 2, &[(0, 3, 0), (3, 1, 1)]),
+        ],
+    )
+}
 
 #[test]
 fn a_chunk_that_ceases_to_share_has_no_copy(rt: HostRuntime) -> Result<(), Fail> {
-    let mesh = kite(rt.alloc())?;
-    let mut state = begun(rt.alloc(), &mesh)?;
-    assert_copy(&rt, state.copy(1, 0), &[(1, 2, 0), (3, 1, 1)])?;
-    assert_copy(&rt, state.copy(1, 2), &[])?;
-    assert!(rt; all_taken(rt.alloc(), &mut state, &HOLD)?);
+    let mut state = begun(rt.alloc())?;
+    assert_old_copies(&rt, &state)?;
+    assert_copies(&rt, &state, &[(1, 2, &[])])?;
+    hold_and_flip(&rt, &mut state)?;
     assert_eq!(rt; state.word(0), Word::Held { by: 0 });
     // The old copies stand until the new ones are put.
-    assert_copy(&rt, state.copy(1, 0), &[(1, 2, 0), (3, 1, 1)])?;
-    assert!(rt; all_taken(rt.alloc(), &mut state, &PUT)?);
-    assert!(rt; state.copy(1, 0).is_none());
-    assert!(rt; state.copy(0, 1).is_none());
-    assert_copy(&rt, state.copy(0, 0), &[(3, 2, 0)])?;
-    assert_copy(&rt, state.copy(1, 1), &[(2, 3, 1)])?;
-    assert_copy(&rt, state.copy(0, 2), &[(0, 3, 0), (3, 1, 1)])?;
-    assert_copy(&rt, state.copy(1, 2), &[(0, 3, 0), (3, 1, 1)])?;
-    Ok(())
+    assert_old_copies(&rt, &state)?;
+    put(&rt, &mut state)?;
+    assert_new_copies(&rt, &state)
 }
 
-#[test]
-fn what_is_given_back_is_free(rt: HostRuntime) -> Result<(), Fail> {
-    let mesh = kite(rt.alloc())?;
-    let mut state = begun(rt.alloc(), &mesh)?;
-    assert!(rt; all_taken(rt.alloc(), &mut state, &HOLD)?);
-    assert!(rt; state.free_part(rt.alloc())?.is_empty());
-    assert!(rt; all_taken(rt.alloc(), &mut state, &PUT)?);
-    assert!(rt; all_taken(rt.alloc(), &mut state, &GIVE_BACK)?);
+// The flip is the only entry, its nodes are free again, and no fifth node was made.
+fn assert_flipped<R: Abort + AllocGlobal>(rt: &R, state: &State) -> Result<(), Fail>
+    requires { IsShown state.now }
+{
     assert_eq!(rt; state.word(0), Word::Free);
     assert_eq!(rt; state.word(4), Word::Never);
     assert_eq!(rt; state.tickets(), 1);
-    let tris = [
-        Tri {
-            a: 0,
-            b: 3,
-            c: 2,
-            owner: 0,
-        },
-        Tri {
-            a: 1,
-            b: 2,
-            c: 3,
-            owner: 1,
-        },
-    ];
-    assert_eq!(rt; state.free_part(rt.alloc())?.as_slice(), tris.as_slice());
     let entry = Entry {
         ticket: 0,
         chunk: 0,
@@ -203,4 +203,19 @@ fn what_is_given_back_is_free(rt: HostRuntime) -> Result<(), Fail> {
     };
     assert_eq!(rt; state.history(rt.alloc())?.as_slice(), [entry].as_slice());
     Ok(())
+}
+
+fn tri(a: u32, b: u32, c: u32, owner: u16) -> Tri {
+    Tri { a, b, c, owner }
+}
+
+#[test]
+fn what_is_given_back_is_free(rt: HostRuntime) -> Result<(), Fail> {
+    let mut state = begun(rt.alloc())?;
+    hold_and_flip(&rt, &mut state)?;
+    assert_free_part(&rt, &state, &[])?;
+    put(&rt, &mut state)?;
+    give_back(&rt, &mut state)?;
+    assert_free_part(&rt, &state, &[tri(0, 3, 2, 0), tri(1, 2, 3, 1)])?;
+    assert_flipped(&rt, &state)
 }

@@ -4,4 +4,5 @@ mod grown;
 mod judges;
 mod patches;
 mod random;
+mod rings;
 mod rows;

@@ -3,6 +3,7 @@ ghost use Rattle.std.specs.Prelude.{◌≡◌};
 
 use pf_journal::{JourErr, journal_text, read_journal};
 use pf_model::{Entry, Op};
+use std::process::Abort;
 use std::test::Fail;
 
 fn entry(ticket: u32, chunk: u16, op: Op) -> Entry
@@ -30,6 +31,13 @@ fn a_journal_is_read(rt: HostRuntime) -> Result<(), Fail> {
     ];
     assert_eq!(rt; entries.as_slice(), wanted.as_slice());
     Ok(())
+}
+
+// A journal has this fault.
+fn assert_fault<R: Abort + AllocGlobal>(rt: &R, text: &str, fault: JourErr) {
+    assert!(rt; text.len() <= 100);
+    let read = read_journal(rt.alloc(), text.as_bytes());
+    assert_eq!(rt; read.err(), Some(fault), "{text:?}");
 }
 
 #[test]
@@ -78,9 +86,7 @@ fn each_fault_of_a_journal_is_named(rt: HostRuntime) {
             JourErr::Extra { line: 4 },
         ),
     ] {
-        assert!(rt; text.len() <= 100);
-        let read = read_journal(rt.alloc(), text.as_bytes());
-        assert_eq!(rt; read.err(), Some(fault), "{text:?}");
+        assert_fault(&rt, text, fault);
     }
 }
 

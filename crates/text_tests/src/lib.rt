@@ -5,6 +5,8 @@
 #[cfg(test)]
 mod journals;
 #[cfg(test)]
+mod meshes;
+#[cfg(test)]
 mod numbers;
 #[cfg(test)]
 mod replays;

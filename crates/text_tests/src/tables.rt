@@ -1,17 +1,29 @@
 //! The partition and the size table.
-use pf_geom::Point;
-use pf_mesh::build;
+use crate::meshes::mesh_at;
 use pf_model::Band;
-use pf_tables::{TableErr, part_text, read_part, read_size};
-use std::alloc::Global;
+use pf_tables::{Parts, TableErr, part_text, read_part, read_size};
+use std::alloc::{AllocError, Global};
+use std::process::Abort;
 use std::test::Fail;
+
+// What is read of a short partition of two triangles.
+fn two_in<R: Abort + AllocGlobal>(rt: &R, text: &str) -> Result<Parts, TableErr> {
+    assert!(rt; text.len() <= 100);
+    read_part(rt.alloc(), text.as_bytes(), 2)
+}
 
 #[test]
 fn a_partition_is_read(rt: HostRuntime) -> Result<(), Fail> {
-    let parts = read_part(rt.alloc(), b" 007\t# seven\r\n\n4#5\n", 2)?;
+    let parts = two_in(&rt, " 007\t# seven\r\n\n4#5\n")?;
     assert_eq!(rt; parts.owners.as_slice(), [7, 4].as_slice());
     assert_eq!(rt; parts.chunks, 8);
     Ok(())
+}
+
+// A partition has this fault.
+fn assert_part_fault<R: Abort + AllocGlobal>(rt: &R, text: &str, fault: TableErr) {
+    let read = two_in(rt, text);
+    assert_eq!(rt; read.err(), Some(fault), "{text:?}");
 }
 
 #[test]
@@ -23,16 +35,17 @@ fn each_fault_of_a_partition_is_named(rt: HostRuntime) {
         ("0 1\n0\n", TableErr::Word { line: 1, column: 3 }),
         ("64 x\n0\n", TableErr::Chunk { line: 1, found: 64 }),
     ] {
-        assert!(rt; text.len() <= 100);
-        let read = read_part(rt.alloc(), text.as_bytes(), 2);
-        assert_eq!(rt; read.err(), Some(fault), "{text:?}");
+        assert_part_fault(&rt, text, fault);
     }
 }
 
 #[test]
 fn the_owners_of_a_mesh_are_written(rt: HostRuntime) -> Result<(), Fail> {
-    let kite = [(0, 0), (8, 0), (4, 2), (4, -2)].map(|(x, y)| Point { x, y });
-    let mesh = build(rt.alloc(), &kite, &[[0, 1, 2], [1, 0, 3]])?;
+    let mesh = mesh_at(
+        &rt,
+        &[(0, 0), (8, 0), (4, 2), (4, -2)],
+        &[[0, 1, 2], [1, 0, 3]],
+    )?;
     let text = part_text(rt.alloc(), &mesh)?;
     assert_eq!(rt; text.as_slice(), b"0\n0\n".as_slice());
     Ok(())
@@ -75,6 +88,13 @@ fn a_size_table_is_read_in_its_order(rt: HostRuntime) -> Result<(), Fail> {
     Ok(())
 }
 
+// A size table has this fault.
+fn assert_size_fault<R: Abort + AllocGlobal>(rt: &R, text: &str, fault: TableErr) {
+    assert!(rt; text.len() <= 100);
+    let read = read_size(rt.alloc(), text.as_bytes());
+    assert_eq!(rt; read.err(), Some(fault), "{text:?}");
+}
+
 #[test]
 fn each_fault_of_a_size_table_is_named(rt: HostRuntime) {
     for (text, fault) in [
@@ -92,29 +112,35 @@ fn each_fault_of_a_size_table_is_named(rt: HostRuntime) {
         ),
         ("default 0 1\n\n0 0 1 1 0 1\n", TableErr::Extra { line: 3 }),
     ] {
-        assert!(rt; text.len() <= 100);
-        let read = read_size(rt.alloc(), text.as_bytes());
-        assert_eq!(rt; read.err(), Some(fault), "{text:?}");
+        assert_size_fault(&rt, text, fault);
     }
 }
 
-fn rows(alloc: Global, count: u32, end: &[u8]) -> Result<Vec<u8>, Fail> {
+// So many rows.
+fn rows(alloc: Global, count: u32) -> Result<Vec<u8>, AllocError> {
     let mut text = Vec::new(alloc);
     for _ in 0..count {
         text.extend_from_slice(b"0 0 1 1 0 1\n")?;
     }
-    text.extend_from_slice(end)?;
     Ok(text)
+}
+
+// What is read of a table with so many rows above the default.
+fn bands_below<R: Abort + AllocGlobal>(rt: &R, count: u32) -> Result<Vec<Band>, TableErr> {
+    let Ok(mut text) = rows(rt.alloc(), count) else {
+        return Err(TableErr::Memory);
+    };
+    if text.extend_from_slice(b"default 0 1\n").is_err() {
+        return Err(TableErr::Memory);
+    }
+    assert!(rt; text.len() <= 20_000);
+    read_size(rt.alloc(), text.as_slice())
 }
 
 #[test]
 fn at_most_1023_rows_stand_above_the_default(rt: HostRuntime) -> Result<(), Fail> {
-    let most = rows(rt.alloc(), 1023, b"default 0 1\n")?;
-    assert!(rt; most.len() <= 20_000);
-    assert_eq!(rt; read_size(rt.alloc(), most.as_slice())?.len(), 1024);
-    let more = rows(rt.alloc(), 1024, b"default 0 1\n")?;
-    assert!(rt; more.len() <= 20_000);
-    let read = read_size(rt.alloc(), more.as_slice());
+    assert_eq!(rt; bands_below(&rt, 1023)?.len(), 1024);
+    let read = bands_below(&rt, 1024);
     assert_eq!(rt; read.err(), Some(TableErr::Band { line: 1024 }));
     Ok(())
 }

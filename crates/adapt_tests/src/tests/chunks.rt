@@ -20,12 +20,19 @@ const FLIPPED_CHUNKS: &[u8] =
 
 #[test]
 fn a_flip_changes_what_chunks_share(rt: HostRuntime) -> Result<(), Fail> {
-    let mut shelf = shelf_of(rt.alloc(), KITE, Vec::new(rt.alloc()))?;
+    let mut shelf = shelf_of(rt.alloc(), KITE)?;
     shelf.put("o.journal", b"parfum journal 1\n0 0 flip 0 1\nend 1\n")?;
-    assert_run(&rt, &["chunks", "s"], &mut shelf, 0, CHUNKS)?;
-    let said = b"operations 1\nnodes 4\ntriangles 2\narea2 32\n";
-    assert_run(&rt, &["replay", "s", "o"], &mut shelf, 0, said)?;
-    assert!(&rt; holds(&shelf, "o.ele", b"2 3 0\n0 0 3 2\n1 1 2 3\n"));
-    assert!(&rt; holds(&shelf, "o.part", KITE.part));
-    assert_run(&rt, &["chunks", "o"], &mut shelf, 0, FLIPPED_CHUNKS)
+    for (words, said) in [
+        (["chunks", "s"].as_slice(), CHUNKS),
+        (
+            &["replay", "s", "o"],
+            b"operations 1\nnodes 4\ntriangles 2\narea2 32\n",
+        ),
+        (&["chunks", "o"], FLIPPED_CHUNKS),
+    ] {
+        assert_run(&rt, words, &mut shelf, 0, said)?;
+    }
+    assert_held(&rt, &shelf, "o.ele", b"2 3 0\n0 0 3 2\n1 1 2 3\n");
+    assert_held(&rt, &shelf, "o.part", KITE.part);
+    Ok(())
 }

@@ -55,21 +55,31 @@ const TWO_SQUARES: Input<'static> = Input {
     size: b"default 0 16\n",
 };
 
+// A run that is done, whose workers pass this gate.
+fn assert_passes<R: Abort + AllocGlobal + Threads + Sync, G: Gate + Sync>(
+    rt: &R,
+    words: &[&str],
+    shelf: &mut MemShelf,
+    gate: &G,
+) -> Result<(), Fail> {
+    let mut out = sink(rt.alloc())?;
+    let status = run(rt, rt.alloc(), words, shelf, &mut out, gate);
+    assert_eq!(rt; status, 0, "{words:?}");
+    Ok(())
+}
+
 // While this worker waits, the other makes its operation, so that the journal begins with it.
 fn assert_waits<R: Abort + AllocGlobal + Threads + Sync>(
     rt: &R,
     waiter: u32,
     journal: &[u8],
 ) -> Result<(), Fail> {
-    let alloc = rt.alloc();
-    let mut shelf = shelf_of(alloc, TWO_SQUARES, Vec::new(alloc))?;
-    let mut out = MemSink::new(alloc, Vec::new(alloc));
-    out.room(1000)?;
+    let mut shelf = shelf_of(rt.alloc(), TWO_SQUARES)?;
     let words = ["adapt", "s", "o", "--ops", "4", "--workers", "2"];
     let gate = Waiting::new(waiter);
-    assert_eq!(rt; run(rt, alloc, &words, &mut shelf, &mut out, &gate), 0);
-    assert!(rt; gate.seen.load(Ordering::SeqCst));
-    assert!(rt; holds(&shelf, "o.journal", journal));
+    assert_passes(rt, &words, &mut shelf, &gate)?;
+    assert!(rt; gate.seen.load(Ordering::SeqCst), "worker {waiter} waits");
+    assert_held(rt, &shelf, "o.journal", journal);
     Ok(())
 }
 
@@ -97,10 +107,7 @@ impl Gate for Counting {
 
 #[test]
 fn each_worker_takes_its_first_turn(rt: HostRuntime) -> Result<(), Fail> {
-    let alloc = rt.alloc();
-    let mut shelf = MemShelf::new(alloc, Vec::new(alloc));
-    let mut out = MemSink::new(alloc, Vec::new(alloc));
-    out.room(1000)?;
+    let mut shelf = MemShelf::new(rt.alloc(), Vec::new(rt.alloc()));
     let gate = Counting {
         first_turns: [
             AtomicU64::new(0),
@@ -109,10 +116,7 @@ fn each_worker_takes_its_first_turn(rt: HostRuntime) -> Result<(), Fail> {
             AtomicU64::new(0),
         ],
     };
-    assert_eq!(&rt;
-        run(&rt, alloc, &["demo", "4"], &mut shelf, &mut out, &gate),
-        0
-    );
+    assert_passes(&rt, &["demo", "4"], &mut shelf, &gate)?;
     for turns in &gate.first_turns {
         assert_eq!(&rt; turns.load(Ordering::SeqCst), 1);
     }

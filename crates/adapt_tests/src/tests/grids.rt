@@ -7,12 +7,38 @@ use pf_tables::part_text;
 use std::alloc::AllocError;
 use tri_files::{ele_text, node_text};
 
-// A shelf with the files of a mesh, and room for what an adaptation writes.
-fn grid_shelf(alloc: Global, mesh: &Mesh, size: &[u8]) -> Result<MemShelf, Fail> {
+fn put_node(alloc: Global, shelf: &mut MemShelf, mesh: &Mesh) -> Result<(), Fail> {
+    let text = node_text(alloc, mesh, 0)?;
+    shelf.put("g.node", &text)?;
+    Ok(())
+}
+
+fn put_ele(alloc: Global, shelf: &mut MemShelf, mesh: &Mesh) -> Result<(), Fail> {
+    let text = ele_text(alloc, mesh, 0)?;
+    shelf.put("g.ele", &text)?;
+    Ok(())
+}
+
+fn put_part(alloc: Global, shelf: &mut MemShelf, mesh: &Mesh) -> Result<(), Fail> {
+    let text = part_text(alloc, mesh)?;
+    shelf.put("g.part", &text)?;
+    Ok(())
+}
+
+// Puts the files of a mesh, its size table aside.
+fn put_texts(alloc: Global, shelf: &mut MemShelf, mesh: &Mesh) -> Result<(), Fail> {
+    put_node(alloc, shelf, mesh)?;
+    put_ele(alloc, shelf, mesh)?;
+    put_part(alloc, shelf, mesh)
+}
+
+// A shelf with the files of a grid of so many cells a side, and room for what an adaptation writes.
+fn grid_shelf(alloc: Global, cells: u32, size: &[u8]) -> Result<MemShelf, Fail> {
+    let Ok(mesh) = grid(alloc, cells) else {
+        return Err(Fail::new("there is no grid"));
+    };
     let mut shelf = MemShelf::new(alloc, Vec::new(alloc));
-    shelf.put("g.node", &node_text(alloc, mesh, 0)?)?;
-    shelf.put("g.ele", &ele_text(alloc, mesh, 0)?)?;
-    shelf.put("g.part", &part_text(alloc, mesh)?)?;
+    put_texts(alloc, &mut shelf, &mesh)?;
     shelf.put("g.size", size)?;
     make_room(&mut shelf, 1_000_000)?;
     Ok(shelf)
@@ -36,38 +62,57 @@ fn says(text: &[u8], line: &[u8]) -> bool {
     false
 }
 
+// The files of a mesh that an adaptation wrote.
+#[derive(Drop)]
+struct Copies {
+    node: Vec<u8>,
+    ele: Vec<u8>,
+    part: Vec<u8>,
+}
+
+fn copy_mesh(alloc: Global, shelf: &MemShelf) -> Result<Copies, Fail> {
+    Ok(Copies {
+        node: copy(alloc, shelf, "o.node")?,
+        ele: copy(alloc, shelf, "o.ele")?,
+        part: copy(alloc, shelf, "o.part")?,
+    })
+}
+
+// A run that is done.
+fn assert_done<R: Abort + AllocGlobal + Threads + Sync>(
+    rt: &R,
+    words: &[&str],
+    shelf: &mut MemShelf,
+    out: &mut MemSink,
+) {
+    let status = run(rt, rt.alloc(), words, shelf, out, &OpenGate);
+    assert_eq!(rt; status, 0, "{words:?}");
+}
+
+// A replay of what an adaptation wrote writes the same files of a mesh, which are long.
+fn assert_replays<R: Abort + AllocGlobal + Threads + Sync>(
+    rt: &R,
+    shelf: &mut MemShelf,
+    out: &mut MemSink,
+) -> Result<(), Fail> {
+    let Copies { node, ele, part } = copy_mesh(rt.alloc(), shelf)?;
+    assert!(rt; node.len() > 10_000 && ele.len() > 10_000 && part.len() > 4000);
+    assert_done(rt, &["replay", "g", "o"], shelf, out);
+    assert_held(rt, shelf, "o.node", &node);
+    assert_held(rt, shelf, "o.ele", &ele);
+    assert_held(rt, shelf, "o.part", &part);
+    Ok(())
+}
+
 #[test]
 fn a_replay_writes_what_an_adaptation_wrote(rt: HostRuntime) -> Result<(), Fail> {
-    let alloc = rt.alloc();
-    let Ok(mesh) = grid(alloc, 32) else {
-        return Err(Fail::new("there is no grid"));
-    };
     let size = b"0 0 512 512 256 2048\ndefault 0 8192\n";
-    let mut shelf = grid_shelf(alloc, &mesh, size)?;
-    let mut out = MemSink::new(alloc, Vec::new(alloc));
-    out.room(1000)?;
+    let mut shelf = grid_shelf(rt.alloc(), 32, size)?;
+    let mut out = sink(rt.alloc())?;
     let words = ["adapt", "g", "o", "--workers", "4", "--ops", "2000"];
-    assert_eq!(&rt; run(&rt, alloc, &words, &mut shelf, &mut out, &OpenGate), 0);
+    assert_done(&rt, &words, &mut shelf, &mut out);
     assert!(&rt; says(out.text(), b"\narea2 8388608\n"));
-    let node = copy(alloc, &shelf, "o.node")?;
-    let ele = copy(alloc, &shelf, "o.ele")?;
-    let part = copy(alloc, &shelf, "o.part")?;
-    assert!(&rt; node.len() > 10_000 && ele.len() > 10_000 && part.len() > 4000);
-    assert_eq!(&rt;
-        run(
-            &rt,
-            alloc,
-            &["replay", "g", "o"],
-            &mut shelf,
-            &mut out,
-            &OpenGate
-        ),
-        0
-    );
-    assert!(&rt; holds(&shelf, "o.node", &node));
-    assert!(&rt; holds(&shelf, "o.ele", &ele));
-    assert!(&rt; holds(&shelf, "o.part", &part));
-    Ok(())
+    assert_replays(&rt, &mut shelf, &mut out)
 }
 
 // The partition that gives these triangles the chunks from 0 to 63 in turn.
@@ -86,18 +131,14 @@ fn scattered(alloc: Global, triangles: u32) -> Result<Vec<u8>, AllocError> {
 
 #[test]
 fn many_chunks_and_a_large_budget_go_together(rt: HostRuntime) -> Result<(), Fail> {
-    let alloc = rt.alloc();
-    let Ok(mesh) = grid(alloc, 64) else {
-        return Err(Fail::new("there is no grid"));
-    };
-    let mut shelf = grid_shelf(alloc, &mesh, b"default 0 8192\n")?;
-    let part = scattered(alloc, 8192)?;
+    let mut shelf = grid_shelf(rt.alloc(), 64, b"default 0 8192\n")?;
+    let part = scattered(rt.alloc(), 8192)?;
     shelf.put("g.part", &part)?;
     let words = ["adapt", "g", "o", "--ops", "100000"];
     let said = b"operations 0\nnodes 4225\ntriangles 8192\narea2 33554432\nrest 0\nquiet\n";
     assert_run(&rt, &words, &mut shelf, 0, said)?;
-    assert!(&rt; holds(&shelf, "o.journal", NOTHING_DONE));
-    assert!(&rt; holds(&shelf, "o.part", &part));
+    assert_held(&rt, &shelf, "o.journal", NOTHING_DONE);
+    assert_held(&rt, &shelf, "o.part", &part);
     Ok(())
 }
 
@@ -109,16 +150,22 @@ fn a_grid_is_shown(rt: HostRuntime) -> Result<(), Fail> {
             ["demo", "4"].as_slice(),
             b"grid 4\narea2 131072\neuler 1\n".as_slice(),
         ),
+        (&["demo", "4"], b"grid 4\narea2 131072\neuler 1\n"),
+        (&["demo", "--", "01"], b"grid 1\narea2 8192\neuler 1\n"),
         (&["demo", "--", "01"], b"grid 1\narea2 8192\neuler 1\n"),
     ] {
-        assert_run(&rt, words, &mut shelf, 0, said)?;
         assert_run(&rt, words, &mut shelf, 0, said)?;
     }
     Ok(())
 }
 
+// There is no grid of so many cells a side.
+fn has_no_grid(alloc: Global, cells: u32) -> bool {
+    matches!(grid(alloc, cells), Err(GenErr::Size))
+}
+
 #[test]
 fn a_grid_has_a_side_of_at_most_64_cells(rt: HostRuntime) {
-    assert!(&rt; matches!(grid(rt.alloc(), 65), Err(GenErr::Size)));
-    assert!(&rt; matches!(grid(rt.alloc(), 0), Err(GenErr::Size)));
+    assert!(&rt; has_no_grid(rt.alloc(), 65));
+    assert!(&rt; has_no_grid(rt.alloc(), 0));
 }

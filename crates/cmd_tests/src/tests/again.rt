@@ -68,64 +68,51 @@ fn any_part(alloc: Global, seed: u32) -> Result<Vec<u8>, AllocError> {
     Ok(text)
 }
 
-// The file of a name, and none where it isn't held.
-fn copy(alloc: Global, shelf: &MemShelf, name: &str) -> Result<Vec<u8>, AllocError> {
-    match shelf.get(name) {
-        Some(file) => Vec::from_slice(alloc, file),
-        None => Ok(Vec::new(alloc)),
-    }
-}
-
-// A replay of an empty journal writes a mesh, and a replay on what it wrote writes the same.
-fn assert_again(
-    rt: &(impl Abort + AllocGlobal + Threads + Sync),
-    base: u32,
-    seed: u32,
-) -> Result<(), Fail> {
-    let alloc = rt.alloc();
-    let mut shelf = MemShelf::new(alloc, Vec::new(alloc));
+// Puts the files of a moved grid, its size table aside.
+fn put_moved(alloc: Global, shelf: &mut MemShelf, base: u32, seed: u32) -> Result<(), Fail> {
     shelf.put("g.node", &moved_node(alloc, base, seed)?)?;
     shelf.put("g.ele", &moved_ele(alloc, base, seed)?)?;
     shelf.put("g.part", &any_part(alloc, seed)?)?;
-    shelf.put("g.size", ALL_LENGTHS)?;
-    shelf.put("o.size", ALL_LENGTHS)?;
-    shelf.put("o.journal", EMPTY)?;
-    shelf.put("p.journal", EMPTY)?;
-    make_room(&mut shelf, 20_000)?;
-    shelf.room("p.node", 20_000)?;
-    shelf.room("p.ele", 20_000)?;
-    shelf.room("p.part", 20_000)?;
-    let mut out = MemSink::new(alloc, Vec::new(alloc));
-    out.room(1000)?;
-    assert_eq!(rt;
-        run(
-            rt,
-            alloc,
-            &["replay", "g", "o"],
-            &mut shelf,
-            &mut out,
-            &OpenGate
-        ),
-        0
-    );
-    assert_eq!(rt;
-        run(
-            rt,
-            alloc,
-            &["replay", "o", "p"],
-            &mut shelf,
-            &mut out,
-            &OpenGate
-        ),
-        0
-    );
-    let node = copy(alloc, &shelf, "o.node")?;
-    let ele = copy(alloc, &shelf, "o.ele")?;
-    let part = copy(alloc, &shelf, "o.part")?;
-    assert!(rt; node.len() > 1000 && ele.len() > 1000 && part.len() > 500);
-    assert!(rt; holds(&shelf, "p.node", &node));
-    assert!(rt; holds(&shelf, "p.ele", &ele));
-    assert!(rt; holds(&shelf, "p.part", &part));
+    Ok(())
+}
+
+// A shelf with size tables and empty journals for a replay of what stands there and one of what that writes.
+fn empty_journals(alloc: Global) -> Result<MemShelf, Fail> {
+    let mut shelf = MemShelf::new(alloc, Vec::new(alloc));
+    for (name, text) in [
+        ("g.size", ALL_LENGTHS),
+        ("o.size", ALL_LENGTHS),
+        ("o.journal", EMPTY),
+        ("p.journal", EMPTY),
+    ] {
+        shelf.put(name, text)?;
+    }
+    make_room(&mut shelf, &["o.node", "o.ele", "o.part"], 20_000)?;
+    make_room(&mut shelf, &["p.node", "p.ele", "p.part"], 20_000)?;
+    Ok(shelf)
+}
+
+// The first file is held and has more than so many bytes, and the second is the same.
+fn assert_same<R: Abort>(rt: &R, shelf: &MemShelf, first: &str, second: &str, bytes: usize) {
+    let file = shelf.get(first).unwrap_or(&[]);
+    assert!(rt; file.len() > bytes, "{first}");
+    assert_held(rt, shelf, second, file);
+}
+
+// A replay of an empty journal writes a mesh, and a replay on what it wrote writes the same.
+fn assert_again<R: Abort + AllocGlobal + Threads + Sync>(
+    rt: &R,
+    base: u32,
+    seed: u32,
+) -> Result<(), Fail> {
+    let mut shelf = empty_journals(rt.alloc())?;
+    put_moved(rt.alloc(), &mut shelf, base, seed)?;
+    let mut out = sink(rt.alloc())?;
+    assert_status(rt, &["replay", "g", "o"], &mut shelf, &mut out, 0);
+    assert_status(rt, &["replay", "o", "p"], &mut shelf, &mut out, 0);
+    assert_same(rt, &shelf, "o.node", "p.node", 1000);
+    assert_same(rt, &shelf, "o.ele", "p.ele", 1000);
+    assert_same(rt, &shelf, "o.part", "p.part", 500);
     Ok(())
 }
 

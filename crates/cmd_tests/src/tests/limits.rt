@@ -2,7 +2,7 @@
 ghost use Rattle.std.specs.Prelude.{None};
 
 use super::*;
-use pf_shelf::{Shelf, ShelfFault};
+use pf_shelf::ShelfFault;
 
 // How many names a mesh may have, those of its vertices and one for each operation.
 const MOST_NAMES: u32 = 1_048_576;
@@ -20,22 +20,34 @@ fn heap_node(alloc: Global, vertices: u32) -> Result<Vec<u8>, AllocError> {
     Ok(text)
 }
 
-#[test]
-fn nodes_and_operations_past_the_limit_are_refused(rt: HostRuntime) -> Result<(), Fail> {
-    let alloc = rt.alloc();
-    let node = heap_node(alloc, MOST_NAMES)?;
+// A replay of this journal on a mesh of as many vertices as there may be names ends with this status and says this.
+fn assert_heap<R: Abort + AllocGlobal + Threads + Sync>(
+    rt: &R,
+    journal: &[u8],
+    status: u8,
+    said: &[u8],
+) -> Result<(), Fail> {
+    let node = heap_node(rt.alloc(), MOST_NAMES)?;
     let heap = Input {
         node: &node,
         ele: b"0 3 0\n",
         part: b"",
         size: ALL_LENGTHS,
     };
-    let mut shelf = shelf_of(alloc, heap, KITE_FLIP)?;
+    let mut shelf = shelf_of(rt.alloc(), heap, journal)?;
+    assert_run(rt, &["replay", "k", "o"], &mut shelf, status, said)
+}
+
+#[test]
+fn nodes_and_operations_past_the_limit_are_refused(rt: HostRuntime) -> Result<(), Fail> {
     let said = b"limit: nodes plus operations 1048577 above 1048576\n";
-    assert_run(&rt, &["replay", "k", "o"], &mut shelf, 1, said)?;
-    shelf.put("o.journal", b"parfum journal 1\nend 0\n")?;
+    assert_heap(&rt, KITE_FLIP, 1, said)
+}
+
+#[test]
+fn nodes_up_to_the_limit_are_taken(rt: HostRuntime) -> Result<(), Fail> {
     let said = b"operations 0\nnodes 0\ntriangles 0\narea2 0\n";
-    assert_run(&rt, &["replay", "k", "o"], &mut shelf, 0, said)
+    assert_heap(&rt, b"parfum journal 1\nend 0\n", 0, said)
 }
 
 // Each file has so many line ends, for which no memory is taken.
@@ -68,28 +80,25 @@ impl Shelf for Ends {
     }
 }
 
+// A check of files of so many line ends is refused and says this.
+fn assert_length<R: Abort + AllocGlobal + Threads + Sync>(
+    rt: &R,
+    len: u64,
+    said: &[u8],
+) -> Result<(), Fail> {
+    let mut shelf = Ends {
+        len,
+        taken: 0,
+        failed: 0,
+    };
+    let mut out = sink(rt.alloc())?;
+    assert_status(rt, &["check", "k"], &mut shelf, &mut out, 1);
+    assert_said(rt, &["check", "k"], &out, said);
+    Ok(())
+}
+
 #[test]
 fn a_file_that_is_longer_than_allowed_is_named(rt: HostRuntime) -> Result<(), Fail> {
-    let alloc = rt.alloc();
-    for (len, said) in [
-        (
-            LONGEST,
-            b"k.node line 268435457: too few words\n".as_slice(),
-        ),
-        (LONGEST + 1, b"k.node: longer than 268435456 bytes\n"),
-    ] {
-        let mut shelf = Ends {
-            len,
-            taken: 0,
-            failed: 0,
-        };
-        let mut out = MemSink::new(alloc, Vec::new(alloc));
-        out.room(1000)?;
-        assert_eq!(rt;
-            run(&rt, alloc, &["check", "k"], &mut shelf, &mut out, &OpenGate),
-            1
-        );
-        assert!(rt; out.text() == said);
-    }
-    Ok(())
+    assert_length(&rt, LONGEST, b"k.node line 268435457: too few words\n")?;
+    assert_length(&rt, LONGEST + 1, b"k.node: longer than 268435456 bytes\n")
 }

@@ -32,30 +32,48 @@ fn take_all(alloc: Global) -> Result<Vec<Vec<u8>>, AllocError> {
     Ok(taken)
 }
 
-// A run of the kite with this file made long by empty lines ends with 5 where no memory is left, and else is done.
-fn assert_needs_memory(
-    rt: &(impl Abort + AllocGlobal + Threads + Sync),
-    name: &str,
-    text: &[u8],
+// A run ends with 5 where no memory is left.
+fn assert_starved<R: Abort + AllocGlobal + Threads + Sync>(
+    rt: &R,
+    words: &[&str],
+    shelf: &mut MemShelf,
 ) -> Result<(), Fail> {
-    let alloc = rt.alloc();
-    let mut long = Vec::from_slice(alloc, text)?;
-    long.resize(LONG, b'\n')?;
-    let mut shelf = kite(alloc, KITE_FLIP, Vec::new(alloc))?;
-    shelf.put(name, &long)?;
-    let mut out = MemSink::new(alloc, Vec::new(alloc));
-    out.room(1000)?;
-    let words = ["replay", "k", "o"];
-    let taken = take_all(alloc)?;
-    let status = run(rt, alloc, &words, &mut shelf, &mut out, &OpenGate);
+    let mut out = sink(rt.alloc())?;
+    let taken = take_all(rt.alloc())?;
+    let status = run(rt, rt.alloc(), words, shelf, &mut out, &OpenGate);
     drop(taken);
     assert_eq!(rt; status, 5);
     let said: &[u8] = b"parfum: out of memory\n";
     assert!(rt; out.text() == said);
-    assert!(rt; shelf.get("o.node").is_none());
-    assert!(rt; shelf.get("o.ele").is_none());
-    assert!(rt; holds(&shelf, name, &long));
-    assert_run(rt, &words, &mut shelf, 0, REPORT)
+    Ok(())
+}
+
+// This text, made long by empty lines.
+fn long_file(alloc: Global, text: &[u8]) -> Result<Vec<u8>, AllocError> {
+    let mut long = Vec::from_slice(alloc, text)?;
+    long.resize(LONG, b'\n')?;
+    Ok(long)
+}
+
+// The kite and its flip, with these bytes as the file of this name.
+fn kite_with(alloc: Global, name: &str, file: &[u8]) -> Result<MemShelf, Fail> {
+    let mut shelf = shelf_of(alloc, KITE, KITE_FLIP)?;
+    shelf.put(name, file)?;
+    Ok(shelf)
+}
+
+// A run of the kite with this file made long by empty lines ends with 5 where no memory is left, and else is done.
+fn assert_needs_memory<R: Abort + AllocGlobal + Threads + Sync>(
+    rt: &R,
+    name: &str,
+    text: &[u8],
+) -> Result<(), Fail> {
+    let long = long_file(rt.alloc(), text)?;
+    let mut shelf = kite_with(rt.alloc(), name, &long)?;
+    assert_starved(rt, &["replay", "k", "o"], &mut shelf)?;
+    assert_absent(rt, &shelf, &["o.node", "o.ele"]);
+    assert_held(rt, &shelf, name, &long);
+    assert_run(rt, &["replay", "k", "o"], &mut shelf, 0, REPORT)
 }
 
 #[test]

@@ -70,25 +70,32 @@ fn mesh_of(alloc: Global, shelf: &MemShelf, names: Names) -> Result<Mesh, Fail> 
     Ok(mesh.with_tables(&triangles, owners, chunks, bands)?)
 }
 
+// The text of the rest list of a mesh.
+fn rest_of(alloc: Global, mesh: &Mesh) -> Result<Vec<u8>, Fail> {
+    let lines = mesh.rest(alloc)?;
+    Ok(rest_text(alloc, &lines)?)
+}
+
+// The text of the rest list of the mesh of these files.
+fn listed_text(alloc: Global, shelf: &MemShelf, names: Names) -> Result<Vec<u8>, Fail> {
+    let mesh = mesh_of(alloc, shelf, names)?;
+    rest_of(alloc, &mesh)
+}
+
 // The mesh of these files has a rest list with this text.
-fn assert_lists(
-    rt: &(impl Abort + AllocGlobal + Threads + Sync),
+fn assert_lists<R: Abort + AllocGlobal>(
+    rt: &R,
     shelf: &MemShelf,
     names: Names,
     text: &[u8],
 ) -> Result<(), Fail> {
-    let alloc = rt.alloc();
-    let lines = mesh_of(alloc, shelf, names)?.rest(alloc)?;
-    let written = rest_text(alloc, &lines)?;
-    assert!(rt; written.as_slice() == text);
+    let listed = listed_text(rt.alloc(), shelf, names)?;
+    assert!(rt; listed.as_slice() == text, "{listed:?}");
     Ok(())
 }
 
 // The mesh has a rest list with this text.
-fn assert_rest(
-    rt: &(impl Abort + AllocGlobal + Threads + Sync),
-    listed: Listed<'_>,
-) -> Result<(), Fail> {
+fn assert_rest<R: Abort + AllocGlobal>(rt: &R, listed: Listed<'_>) -> Result<(), Fail> {
     let shelf = shelf_of(rt.alloc(), listed.input, b"")?;
     assert_lists(rt, &shelf, READ, listed.text)
 }
@@ -125,13 +132,8 @@ fn short_edges_and_flips_are_listed(rt: HostRuntime) -> Result<(), Fail> {
     let text = b"parfum rest 1\nshort 0 1 corner passes\nshort 1 2 passes corner\n\
         short 1 3 off-boundary corner\nend 3\n";
     assert_rest(&rt, Listed { input, text })?;
-    let input = Input {
-        node: KITE_NODE,
-        ele: KITE_ELE,
-        ..SQUARE
-    };
     let text = b"parfum rest 1\nflip 0 1\nend 1\n";
-    assert_rest(&rt, Listed { input, text })
+    assert_rest(&rt, Listed { input: KITE, text })
 }
 
 #[test]

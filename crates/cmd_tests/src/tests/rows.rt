@@ -2,12 +2,6 @@
 
 use super::*;
 
-const KITE: Input<'static> = Input {
-    node: KITE_NODE,
-    ele: KITE_ELE,
-    ..SQUARE
-};
-
 // A fan round a node inside.
 const STAR: Input<'static> = Input {
     node: b"5 2 0 0\n0 4 3\n1 0 0\n2 4 1\n3 8 0\n4 4 8\n",
@@ -45,8 +39,8 @@ const COVERED: Input<'static> = Input {
 };
 
 // A replay ends with this status and says this.
-fn assert_ends(
-    rt: &(impl Abort + AllocGlobal + Threads + Sync),
+fn assert_ends<R: Abort + AllocGlobal + Threads + Sync>(
+    rt: &R,
     input: Input<'_>,
     journal: &[u8],
     status: u8,
@@ -54,29 +48,38 @@ fn assert_ends(
 ) -> Result<(), Fail> {
     let mut shelf = shelf_of(rt.alloc(), input, journal)?;
     assert_run(rt, &["replay", "k", "o"], &mut shelf, status, said)?;
-    assert!(rt; shelf.get("o.node").is_none());
+    assert_absent(rt, &shelf, &["o.node"]);
     Ok(())
 }
 
+// The text of these three parts.
+fn joined(alloc: Global, front: &[u8], middle: &[u8], back: &[u8]) -> Result<Vec<u8>, AllocError> {
+    let mut text = Vec::from_slice(alloc, front)?;
+    text.extend_from_slice(middle)?;
+    text.extend_from_slice(back)?;
+    Ok(text)
+}
+
 // A journal of one operation is refused for this reason.
-fn assert_refuses(
-    rt: &(impl Abort + AllocGlobal + Threads + Sync),
+fn assert_refuses<R: Abort + AllocGlobal + Threads + Sync>(
+    rt: &R,
     input: Input<'_>,
     operation: &[u8],
     reason: &[u8],
 ) -> Result<(), Fail> {
-    let mut journal = Vec::from_slice(rt.alloc(), b"parfum journal 1\n0 0 ")?;
-    journal.extend_from_slice(operation)?;
-    journal.extend_from_slice(b"\nend 1\n")?;
-    let mut said = Vec::from_slice(rt.alloc(), b"operation 0 refused: ")?;
-    said.extend_from_slice(reason)?;
-    said.push(b'\n')?;
+    let journal = joined(
+        rt.alloc(),
+        b"parfum journal 1\n0 0 ",
+        operation,
+        b"\nend 1\n",
+    )?;
+    let said = joined(rt.alloc(), b"operation 0 refused: ", reason, b"\n")?;
     assert_ends(rt, input, &journal, 6, &said)
 }
 
 // A replay writes these files.
-fn assert_writes(
-    rt: &(impl Abort + AllocGlobal + Threads + Sync),
+fn assert_writes<R: Abort + AllocGlobal + Threads + Sync>(
+    rt: &R,
     input: Input<'_>,
     journal: &[u8],
     said: &[u8],
@@ -84,27 +87,59 @@ fn assert_writes(
 ) -> Result<(), Fail> {
     let mut shelf = shelf_of(rt.alloc(), input, journal)?;
     assert_run(rt, &["replay", "k", "o"], &mut shelf, 0, said)?;
-    assert!(rt; holds(&shelf, "o.node", files[0]));
-    assert!(rt; holds(&shelf, "o.ele", files[1]));
-    assert!(rt; holds(&shelf, "o.part", files[2]));
+    assert_held(rt, &shelf, "o.node", files[0]);
+    assert_held(rt, &shelf, "o.ele", files[1]);
+    assert_held(rt, &shelf, "o.part", files[2]);
     Ok(())
 }
 
 #[test]
-fn each_condition_is_said(rt: HostRuntime) -> Result<(), Fail> {
+fn each_condition_on_an_edge_is_said(rt: HostRuntime) -> Result<(), Fail> {
+    for (operation, reason) in [
+        (b"flip 1 3".as_slice(), b"no-edge".as_slice()),
+        (b"flip 2 2", b"no-edge"),
+        (b"flip 0 1", b"on-boundary"),
+        (b"flip 0 2", b"not-shorter"),
+        (b"bisect 1 0", b"not-longest 0 2"),
+        (b"contract 1 0", b"corner"),
+    ] {
+        assert_refuses(&rt, SQUARE, operation, reason)?;
+    }
+    Ok(())
+}
+
+#[test]
+fn each_condition_on_a_contraction_is_said(rt: HostRuntime) -> Result<(), Fail> {
+    assert_refuses(&rt, ROOF, b"contract 1 3", b"off-boundary")?;
+    assert_refuses(&rt, STAR, b"contract 0 1", b"inverts 2 3")?;
+    assert_refuses(&rt, BRIDGE, b"contract 1 2", b"link-node 3")?;
+    assert_refuses(&rt, BOW, b"contract 0 1", b"pinched")
+}
+
+#[test]
+fn each_condition_on_a_new_edge_is_said(rt: HostRuntime) -> Result<(), Fail> {
+    assert_refuses(&rt, ARROW, b"flip 0 1", b"not-convex")?;
+    assert_refuses(&rt, COVERED, b"flip 0 1", b"edge-there 2 3")
+}
+
+#[test]
+fn wanted_lengths_are_kept(rt: HostRuntime) -> Result<(), Fail> {
+    let square = |size| Input { size, ..SQUARE };
+    let roof = |size| Input { size, ..ROOF };
+    // The first row that holds the middle counts.
+    let rows = b"2 2 2 2 9 1000\n0 0 4 4 8 1000\ndefault 0 1000\n";
     for (input, operation, reason) in [
-        (SQUARE, b"flip 1 3".as_slice(), b"no-edge".as_slice()),
-        (SQUARE, b"flip 2 2", b"no-edge"),
-        (SQUARE, b"flip 0 1", b"on-boundary"),
-        (SQUARE, b"flip 0 2", b"not-shorter"),
-        (SQUARE, b"bisect 1 0", b"not-longest 0 2"),
-        (SQUARE, b"contract 1 0", b"corner"),
-        (ROOF, b"contract 1 3", b"off-boundary"),
-        (STAR, b"contract 0 1", b"inverts 2 3"),
-        (BRIDGE, b"contract 1 2", b"link-node 3"),
-        (BOW, b"contract 0 1", b"pinched"),
-        (ARROW, b"flip 0 1", b"not-convex"),
-        (COVERED, b"flip 0 1", b"edge-there 2 3"),
+        (
+            square(b"default 9 1000\n".as_slice()),
+            b"bisect 0 2".as_slice(),
+            b"too-short 0 2".as_slice(),
+        ),
+        (
+            roof(b"default 0 63\n".as_slice()),
+            b"contract 1 0",
+            b"too-long 0 2",
+        ),
+        (square(rows), b"bisect 0 2", b"too-short 0 2"),
     ] {
         assert_refuses(&rt, input, operation, reason)?;
     }
@@ -112,17 +147,13 @@ fn each_condition_is_said(rt: HostRuntime) -> Result<(), Fail> {
 }
 
 #[test]
-fn wanted_lengths_are_kept(rt: HostRuntime) -> Result<(), Fail> {
-    let least = |size| Input { size, ..SQUARE };
-    assert_refuses(
-        &rt,
-        least(b"default 9 1000\n"),
-        b"bisect 0 2",
-        b"too-short 0 2",
-    )?;
+fn the_least_wanted_length_is_allowed(rt: HostRuntime) -> Result<(), Fail> {
     assert_writes(
         &rt,
-        least(b"default 8 1000\n"),
+        Input {
+            size: b"default 8 1000\n",
+            ..SQUARE
+        },
         b"parfum journal 1\n0 0 bisect 0 2\nend 1\n",
         b"operations 1\nnodes 5\ntriangles 4\narea2 32\n",
         [
@@ -130,18 +161,7 @@ fn wanted_lengths_are_kept(rt: HostRuntime) -> Result<(), Fail> {
             b"4 3 0\n0 0 1 4\n1 0 4 3\n2 1 2 4\n3 2 3 4\n",
             b"0\n0\n0\n0\n",
         ],
-    )?;
-    let roof = Input {
-        size: b"default 0 63\n",
-        ..ROOF
-    };
-    assert_refuses(&rt, roof, b"contract 1 0", b"too-long 0 2")?;
-    // The first row that holds the middle counts.
-    let rows = Input {
-        size: b"2 2 2 2 9 1000\n0 0 4 4 8 1000\ndefault 0 1000\n",
-        ..SQUARE
-    };
-    assert_refuses(&rt, rows, b"bisect 0 2", b"too-short 0 2")
+    )
 }
 
 #[test]
@@ -217,7 +237,7 @@ fn chunks_are_kept(rt: HostRuntime) -> Result<(), Fail> {
 }
 
 #[test]
-fn the_first_fault_of_the_files_is_said(rt: HostRuntime) -> Result<(), Fail> {
+fn the_first_fault_of_the_tables_is_said(rt: HostRuntime) -> Result<(), Fail> {
     let part = |part| Input { part, ..KITE };
     let size = |size| Input { size, ..KITE };
     for (input, said) in [
@@ -239,6 +259,11 @@ fn the_first_fault_of_the_files_is_said(rt: HostRuntime) -> Result<(), Fail> {
     ] {
         assert_ends(&rt, input, KITE_FLIP, 1, said)?;
     }
+    Ok(())
+}
+
+#[test]
+fn the_first_fault_of_the_journal_is_said(rt: HostRuntime) -> Result<(), Fail> {
     for (journal, said) in [
         (
             b"parfum journal 1\n1 0 flip 0 1\nend 1\n".as_slice(),
@@ -255,32 +280,36 @@ fn the_first_fault_of_the_files_is_said(rt: HostRuntime) -> Result<(), Fail> {
     Ok(())
 }
 
+const FLAT: Input<'static> = Input {
+    node: b"3 2 0 0\n0 0 0\n1 2 0\n2 4 0\n",
+    ele: b"1 3 0\n0 0 1 2\n",
+    part: b"0\n",
+    size: ALL_LENGTHS,
+};
+
+const TWICE: Input<'static> = Input {
+    node: b"3 2 0 0\n0 0 0\n1 4 0\n2 0 4\n",
+    ele: b"2 3 0\n0 0 1 2\n1 1 2 0\n",
+    ..KITE
+};
+
 #[test]
 fn triangles_that_make_no_mesh_are_refused(rt: HostRuntime) -> Result<(), Fail> {
-    let flat = Input {
-        node: b"3 2 0 0\n0 0 0\n1 2 0\n2 4 0\n",
-        ele: b"1 3 0\n0 0 1 2\n",
-        part: b"0\n",
-        size: ALL_LENGTHS,
-    };
-    assert_ends(&rt, flat, KITE_FLIP, 1, b"k.ele triangle 0: flat\n")?;
-    let twice = Input {
-        node: b"3 2 0 0\n0 0 0\n1 4 0\n2 0 4\n",
-        ele: b"2 3 0\n0 0 1 2\n1 1 2 0\n",
-        ..KITE
-    };
-    assert_ends(&rt, twice, KITE_FLIP, 1, b"k.ele: edge 0 1 twice\n")?;
-    // A clockwise triangle is turned round.
+    assert_ends(&rt, FLAT, KITE_FLIP, 1, b"k.ele triangle 0: flat\n")?;
+    assert_ends(&rt, TWICE, KITE_FLIP, 1, b"k.ele: edge 0 1 twice\n")
+}
+
+#[test]
+fn a_clockwise_triangle_is_turned_round(rt: HostRuntime) -> Result<(), Fail> {
     let clockwise = Input {
         ele: b"1 3 0\n0 0 2 1\n",
         part: b"0\n",
-        ..twice
+        ..TWICE
     };
-    let empty = b"parfum journal 1\nend 0\n";
     assert_writes(
         &rt,
         clockwise,
-        empty,
+        b"parfum journal 1\nend 0\n",
         b"operations 0\nnodes 3\ntriangles 1\narea2 16\n",
         [clockwise.node, b"1 3 0\n0 0 1 2\n", b"0\n"],
     )
@@ -313,38 +342,69 @@ fn fan_part(alloc: Global, triangles: u32) -> Result<Vec<u8>, AllocError> {
     Ok(text)
 }
 
+// A node of so many triangles isn't contracted for this reason.
+fn assert_fan<R: Abort + AllocGlobal + Threads + Sync>(
+    rt: &R,
+    triangles: u32,
+    reason: &[u8],
+) -> Result<(), Fail> {
+    let node = fan_node(rt.alloc(), triangles)?;
+    let ele = fan_ele(rt.alloc(), triangles)?;
+    let part = fan_part(rt.alloc(), triangles)?;
+    let fan = Input {
+        node: &node,
+        ele: &ele,
+        part: &part,
+        size: ALL_LENGTHS,
+    };
+    assert_refuses(rt, fan, b"contract 0 1", reason)
+}
+
 #[test]
 fn a_node_of_more_than_60_triangles_is_too_wide(rt: HostRuntime) -> Result<(), Fail> {
-    let alloc = rt.alloc();
-    for (triangles, reason) in [(61, b"too-wide".as_slice()), (60, b"corner")] {
-        let node = fan_node(alloc, triangles)?;
-        let ele = fan_ele(alloc, triangles)?;
-        let part = fan_part(alloc, triangles)?;
-        let fan = Input {
-            node: &node,
-            ele: &ele,
-            part: &part,
-            size: ALL_LENGTHS,
-        };
-        assert_refuses(&rt, fan, b"contract 0 1", reason)?;
-    }
+    assert_fan(&rt, 61, b"too-wide")?;
+    assert_fan(&rt, 60, b"corner")
+}
+
+// A check of a mesh ends with this status, says this and writes nothing.
+fn assert_checks<R: Abort + AllocGlobal + Threads + Sync>(
+    rt: &R,
+    words: &[&str],
+    input: Input<'_>,
+    status: u8,
+    said: &[u8],
+) -> Result<(), Fail> {
+    let mut shelf = shelf_of(rt.alloc(), input, KITE_FLIP)?;
+    assert_run(rt, words, &mut shelf, status, said)?;
+    assert_absent(rt, &shelf, &["o.node"]);
     Ok(())
 }
 
 #[test]
 fn a_mesh_is_checked(rt: HostRuntime) -> Result<(), Fail> {
-    let mut shelf = shelf_of(rt.alloc(), SQUARE, KITE_FLIP)?;
     let said = b"nodes 4\ntriangles 2\narea2 32\neuler 1\nboundary 4\nchunks 1\n";
-    assert_run(&rt, &["check", "k"], &mut shelf, 0, said)?;
+    assert_checks(&rt, &["check", "k"], SQUARE, 0, said)?;
     let words = ["check", "k", "--scale", "2"];
-    let said = b"nodes 4\ntriangles 2\narea2 128\neuler 1\nboundary 4\nchunks 1\n";
-    assert_run(&rt, &words, &mut shelf, 0, said)?;
-    shelf.put("k.part", b"3\n1\n")?;
+    assert_checks(&rt, &words, SQUARE, 0, SCALED_CHECK)
+}
+
+#[test]
+fn chunks_are_counted_up_to_the_last(rt: HostRuntime) -> Result<(), Fail> {
+    let input = Input {
+        part: b"3\n1\n",
+        ..SQUARE
+    };
     let said = b"nodes 4\ntriangles 2\narea2 32\neuler 1\nboundary 4\nchunks 4\n";
-    assert_run(&rt, &["check", "k"], &mut shelf, 0, said)?;
-    shelf.put("k.ele", b"2 3 0\n0 0 1 2\n1 0 1 3\n")?;
+    assert_checks(&rt, &["check", "k"], input, 0, said)
+}
+
+#[test]
+fn a_check_refuses_triangles_that_make_no_mesh(rt: HostRuntime) -> Result<(), Fail> {
+    let input = Input {
+        ele: b"2 3 0\n0 0 1 2\n1 0 1 3\n",
+        part: b"3\n1\n",
+        ..SQUARE
+    };
     let said = b"k.ele: edge 0 1 twice\n";
-    assert_run(&rt, &["check", "k"], &mut shelf, 1, said)?;
-    assert!(rt; shelf.get("o.node").is_none());
-    Ok(())
+    assert_checks(&rt, &["check", "k"], input, 1, said)
 }

@@ -2,12 +2,6 @@
 
 use super::*;
 
-const KITE: Input<'static> = Input {
-    node: KITE_NODE,
-    ele: KITE_ELE,
-    ..SQUARE
-};
-
 // Two actors: one flips the kite's edge while the other tries.
 const TRIES: &[u8] =
     b"budget 2 workers 2\nsplit 0 1 1\nlock 0 0\nlock 0 1\nlock 1 1\nlost 1 1\ncommit 0 0 flip 0 1\nlock 0 2\nlock 0 3\ncommit 0 0 flip 0 1\nrelease 0 0\npush 0 0 0\nrelease 0 0\nlock 1 0\n";
@@ -23,17 +17,14 @@ fn traced(
     fail: Vec<Call>,
 ) -> Result<MemShelf, Fail> {
     let mut shelf = MemShelf::new(alloc, fail);
-    shelf.put("k.node", input.node)?;
-    shelf.put("k.ele", input.ele)?;
-    shelf.put("k.part", input.part)?;
-    shelf.put("k.size", input.size)?;
+    put_mesh(&mut shelf, input)?;
     shelf.put("t", trace)?;
     Ok(shelf)
 }
 
 // The trace of a mesh ends with this status and says this, and no file is changed.
-fn assert_traced(
-    rt: &(impl Abort + AllocGlobal + Threads + Sync),
+fn assert_traced<R: Abort + AllocGlobal + Threads + Sync>(
+    rt: &R,
     input: Input<'_>,
     trace: &[u8],
     status: u8,
@@ -41,9 +32,9 @@ fn assert_traced(
 ) -> Result<(), Fail> {
     let mut shelf = traced(rt.alloc(), input, trace, Vec::new(rt.alloc()))?;
     assert_run(rt, &["trace", "k", "t"], &mut shelf, status, said)?;
-    assert!(rt; holds(&shelf, "k.node", input.node));
-    assert!(rt; holds(&shelf, "k.ele", input.ele));
-    assert!(rt; holds(&shelf, "t", trace));
+    assert_held(rt, &shelf, "k.node", input.node);
+    assert_held(rt, &shelf, "k.ele", input.ele);
+    assert_held(rt, &shelf, "t", trace);
     Ok(())
 }
 
@@ -102,49 +93,42 @@ fn a_mesh_without_events_is_free(rt: HostRuntime) -> Result<(), Fail> {
 
 #[test]
 fn a_line_in_no_form_is_refused(rt: HostRuntime) -> Result<(), Fail> {
-    assert_traced(&rt, KITE, b"", 1, b"t line 1: event refused\n")?;
-    assert_traced(
-        &rt,
-        KITE,
-        b"budget 1048573 workers 1\n",
-        1,
-        b"t line 1: event refused\n",
-    )?;
-    assert_traced(
-        &rt,
-        KITE,
-        b"\n# none\nbudget 1 workers 1\nlock 0 0 0\n",
-        1,
-        b"t line 4: event refused\n",
-    )
+    for (trace, said) in [
+        (b"".as_slice(), b"t line 1: event refused\n".as_slice()),
+        (b"budget 1048573 workers 1\n", b"t line 1: event refused\n"),
+        (
+            b"\n# none\nbudget 1 workers 1\nlock 0 0 0\n",
+            b"t line 4: event refused\n",
+        ),
+    ] {
+        assert_traced(&rt, KITE, trace, 1, said)?;
+    }
+    Ok(())
 }
 
 #[test]
 fn a_trace_is_the_last_file_that_is_read(rt: HostRuntime) -> Result<(), Fail> {
     let mut shelf = traced(rt.alloc(), KITE, b"budgets\n", Vec::new(rt.alloc()))?;
-    assert_run(&rt, &["trace", "k", "u"], &mut shelf, 7, b"u: missing\n")?;
-    assert_run(
-        &rt,
-        &["trace", "m", "t"],
-        &mut shelf,
-        7,
-        b"m.node: missing\n",
-    )?;
-    let words = b"parfum: words refused\n";
-    assert_run(&rt, &["trace", "k"], &mut shelf, 2, words)?;
-    assert_run(&rt, &["trace", "k", "-t"], &mut shelf, 2, words)?;
-    let fail = vec![in rt.alloc();
-        Call {
-            kind: Kind::Read,
-            nth: 8
-        },
-    ]?;
+    for (words, status, said) in [
+        (
+            ["trace", "k", "u"].as_slice(),
+            7,
+            b"u: missing\n".as_slice(),
+        ),
+        (&["trace", "m", "t"], 7, b"m.node: missing\n"),
+        (&["trace", "k"], 2, b"parfum: words refused\n"),
+        (&["trace", "k", "-t"], 2, b"parfum: words refused\n"),
+    ] {
+        assert_run(&rt, words, &mut shelf, status, said)?;
+    }
+    Ok(())
+}
+
+#[test]
+fn a_trace_that_is_not_read_is_named(rt: HostRuntime) -> Result<(), Fail> {
+    let (kind, nth) = (Kind::Read, 8);
+    let fail = vec![in rt.alloc(); Call { kind, nth }]?;
     let mut shelf = traced(rt.alloc(), KITE, TRIES, fail)?;
-    assert_run(
-        &rt,
-        &["trace", "k", "t", "--scale", "2"],
-        &mut shelf,
-        3,
-        b"t: read failed\n",
-    )
+    let words = ["trace", "k", "t", "--scale", "2"];
+    assert_run(&rt, &words, &mut shelf, 3, b"t: read failed\n")
 }

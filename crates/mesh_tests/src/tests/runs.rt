@@ -1,5 +1,5 @@
 //! Runs of entries, beside the same entries applied one by one.
-ghost use Rattle.std.specs.Prelude.{◌≡◌, ◌+◌, ◌≤◌, IfOk, length};
+ghost use Rattle.std.specs.Prelude.{◌≡◌, ◌+◌, ◌≤◌, length};
 ghost use Rattle.pf_model.specs.Applied.{IsFresh};
 ghost use Rattle.pf_model.specs.Replay.{HasTickets};
 
@@ -18,15 +18,6 @@ fn one_by_one(mesh: &mut Mesh, entries: &[Entry]) -> Result<(), ApplyErr>
         }
     }
     Ok(())
-}
-
-// The kite, with four names.
-pub(super) fn kite(alloc: Global) -> Result<Mesh, BuildErr>
-    ensures fresh { IfOk result (λ m. IsFresh m.mesh 0) }
-    ensures names { IfOk result (λ m. m.mesh.first_new ≡ 4) }
-{
-    let mesh = made(alloc, &KITE, &[[0, 1, 2], [1, 0, 3]])?;
-    Ok(mesh)
 }
 
 // Three operations that pass on the kite, and another.
@@ -51,6 +42,35 @@ fn entry(ticket: u32, op: Op) -> Entry
     }
 }
 
+// The entries run on the one mesh as they are applied one by one to the other.
+fn run_both<R: Abort + AllocGlobal>(rt: &R, mesh: &mut Mesh, other: &mut Mesh, op: Op)
+    requires fresh { IsFresh mesh.old.mesh 0 }
+    requires few { mesh.old.mesh.first_new ≤ 1000 }
+    requires other_fresh { IsFresh other.old.mesh 0 }
+    requires other_few { other.old.mesh.first_new ≤ 1000 }
+{
+    let entries = and_then(op);
+    let fault = one_by_one(other, &entries).err();
+    match mesh.apply_all(&entries) {
+        Ok(()) => assert_eq!(rt; (op, fault), (op, None)),
+        Err(stop) => assert_eq!(rt; (op, stop.ticket, Some(stop.fault)), (op, 3, fault)),
+    }
+}
+
+// The two meshes have the same lists after the three operations and this one.
+fn assert_alike<R: Abort + AllocGlobal>(rt: &R, mesh: &Mesh, other: &Mesh, op: Op) {
+    assert_eq!(rt; (op, mesh.tris()), (op, other.tris()));
+    assert_eq!(rt; (op, mesh.sites()), (op, other.sites()));
+}
+
+fn assert_run<R: Abort + AllocGlobal>(rt: &R, op: Op) -> Result<(), Fail> {
+    let mut mesh = kite(rt)?;
+    let mut other = kite(rt)?;
+    run_both(rt, &mut mesh, &mut other, op);
+    assert_alike(rt, &mesh, &other, op);
+    Ok(())
+}
+
 #[test]
 fn runs_what_is_applied_one_by_one(rt: HostRuntime) -> Result<(), Fail> {
     for op in [
@@ -60,38 +80,34 @@ fn runs_what_is_applied_one_by_one(rt: HostRuntime) -> Result<(), Fail> {
         Op::Flip { a: 2, b: 3 },
         Op::Flip { a: 4, b: 0 },
     ] {
-        let entries = and_then(op);
-        let mut mesh = kite(rt.alloc())?;
-        let mut other = kite(rt.alloc())?;
-        let fault = one_by_one(&mut other, &entries).err();
-        match mesh.apply_all(&entries) {
-            Ok(()) => assert_eq!(rt; fault, None),
-            Err(stop) => assert_eq!(rt; (stop.ticket, Some(stop.fault)), (3, fault)),
-        }
-        assert_eq!(rt; mesh.tris(), other.tris());
-        assert_eq!(rt; mesh.sites(), other.sites());
+        assert_run(&rt, op)?;
     }
     Ok(())
 }
 
+// The kite after a flip.
+fn assert_turned<R: Abort + AllocGlobal>(rt: &R, mesh: &Mesh) {
+    assert_tris(rt, mesh, &[tri(0, 3, 2), tri(1, 2, 3)]);
+    let sites = [site(0, 0, 0), site(1, 8, 0), site(2, 4, 2), site(3, 4, -2)];
+    assert_sites(rt, mesh, &sites);
+}
+
 #[test]
 fn stops_a_run_at_a_refusal(rt: HostRuntime) -> Result<(), Fail> {
-    let mut mesh = kite(rt.alloc())?;
+    let mut mesh = kite(&rt)?;
     let ran = mesh.apply_all(&and_then(Op::Flip { a: 2, b: 3 }));
     let fault = ApplyErr::Refused {
         cond: Cond::NotShorter,
     };
     assert_eq!(rt; ran.err(), Some(RunErr { ticket: 3, fault }));
-    assert_eq!(rt; mesh.tris(), [tri(0, 3, 2), tri(1, 2, 3)].as_slice());
-    let sites = [site(0, 0, 0), site(1, 8, 0), site(2, 4, 2), site(3, 4, -2)];
-    assert_eq!(rt; mesh.sites(), sites.as_slice());
+    assert_turned(&rt, &mesh);
     Ok(())
 }
 
 #[test]
 fn runs_no_entries(rt: HostRuntime) -> Result<(), Fail> {
-    let mut mesh = kite(rt.alloc())?;
+    let mut mesh = kite(&rt)?;
     assert!(rt; mesh.apply_all(&[]).is_ok());
-    assert_eq!(rt; mesh.tris(), [tri(0, 1, 2), tri(0, 3, 1)].as_slice());
+    assert_tris(&rt, &mesh, &[tri(0, 1, 2), tri(0, 3, 1)]);
     Ok(())
 }

@@ -34,16 +34,27 @@ pub fn held_of(alloc: Global, mesh: &Mesh, nodes: &[u32]) -> Result<StarSet, NoM
     Ok(set)
 }
 
+// Holds one node more.
+fn hold_one<R: Abort + AllocGlobal>(
+    rt: &R,
+    mesh: &Mesh,
+    set: &mut StarSet,
+    node: u32,
+) -> Result<(), Fail> {
+    let star = mesh.star(rt.alloc(), node)?;
+    assert!(rt; star.is_some());
+    set.put(NewStar { node, star })?;
+    Ok(())
+}
+
 // The cavity of an operation, held node by node as `need` says.
 fn cavity_held<R: Abort + AllocGlobal>(rt: &R, mesh: &Mesh, op: Op) -> Result<StarSet, Fail> {
     let mut set = StarSet::new(rt.alloc());
     for _ in 0..MOST_NODES {
-        let Need::Hold { node } = need(&set, op) else {
-            return Ok(set);
-        };
-        let star = mesh.star(rt.alloc(), node)?;
-        assert!(rt; star.is_some());
-        set.put(NewStar { node, star })?;
+        match need(&set, op) {
+            Need::Hold { node } => hold_one(rt, mesh, &mut set, node)?,
+            Need::Whole => return Ok(set),
+        }
     }
     assert_eq!(rt; need(&set, op), Need::Whole);
     Ok(set)

@@ -1,13 +1,11 @@
 //! Many small meshes with moved nodes, holes, several chunks and bands, and every operation at every edge.
-ghost use Rattle.std.specs.Prelude.{◌≡◌, ◌∷◌, [], ◌<◌, ◌≤◌, All, IfOk, length};
-ghost use Rattle.pf_geom.specs.Plane.{IsInRange};
+ghost use Rattle.std.specs.Prelude.{◌≡◌, ◌∷◌, [], ◌<◌, All, IfOk, length};
 ghost use Rattle.pf_model.specs.Conforming.{HasDefault};
 
 use super::dice::Dice;
-use super::grown::{Grown, opened};
+use super::grown::{Grown, mesh_at};
 use super::judges::{assert_by_ends, judged};
 use super::patches::{all_held, assert_patched, held_of};
-use pf_geom::Point;
 use pf_mesh::{Band, Op, Tri};
 use pf_star::StarSet;
 use std::alloc::{AllocError, Global};
@@ -36,28 +34,15 @@ struct Held {
     stars: StarSet,
 }
 
-fn small_point(x: u32, y: u32) -> Point
-    requires x { x ≤ 1000 }
-    requires y { y ≤ 1000 }
-    ensures { IsInRange result }
-{
-    Point {
-        x: x as i32,
-        y: y as i32,
-    }
-}
-
 // The nodes of a grid, each moved a little, and by an even number.
-fn moved_points(alloc: Global, dice: &mut Dice) -> Result<Vec<Point>, AllocError>
-    ensures { IfOk result (λ points. All IsInRange points.items) }
-{
-    let mut points = Vec::new(alloc);
+fn moved_places(alloc: Global, dice: &mut Dice) -> Result<Vec<(i16, i16)>, AllocError> {
+    let mut places = Vec::new(alloc);
     for k in 0..SIDE * SIDE {
         let x = STEP * (k % SIDE) + 2 * dice.below(8);
         let y = STEP * (k / SIDE) + 2 * dice.below(8);
-        points.push(small_point(x, y))?;
+        places.push((x as i16, y as i16))?;
     }
-    Ok(points)
+    Ok(places)
 }
 
 // Adds a triangle, most often.
@@ -209,10 +194,9 @@ fn try_some(grown: &mut Grown, dice: &mut Dice) {
 
 // A mesh on which some operations were applied.
 fn random_mesh<R: Abort + AllocGlobal>(rt: &R, dice: &mut Dice) -> Result<Grown, Fail> {
-    let points = moved_points(rt.alloc(), dice)?;
+    let places = moved_places(rt.alloc(), dice)?;
     let tris = cut_cells(rt.alloc(), dice)?;
-    assert!(rt; points.len() < 100 && tris.len() < 100);
-    let mesh = opened(rt.alloc(), &points, &tris)?;
+    let mesh = mesh_at(rt, &places, &tris)?;
     let owners = owners_of(rt.alloc(), dice, tris.len())?;
     let bands = bands_of(rt.alloc(), dice)?;
     let mut grown = Grown::of(mesh.with_tables(&tris, owners, CHUNKS, bands)?);

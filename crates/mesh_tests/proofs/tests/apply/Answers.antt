@@ -4,7 +4,7 @@ use Rattle.pf_model.specs.declared.Op.TheVariants.{Flip, Bisect, Contract}
 use Rattle.pf_model.specs.Mesh.{Undivided}
 use Rattle.pf_model.specs.Applied.{IsFresh, op_applied}
 use Rattle.pf_model.proofs.ReplayKeeps.{applied_fresh}
-use Rattle.mesh_tests.proofs.tests.operations.apply.Goals as goal
+use Rattle.mesh_tests.proofs.tests.apply.Goals as goal
 
 same_first : (m : Undivided) (t : ℕ) (op : Op) → (op_applied m t op).first_new ≡ m.first_new
 same_first m t (Flip a b) = refl

@@ -1,9 +1,0 @@
-use Rattle.std.proofs.Common.{sym, arith}
-use Rattle.pf_model.proofs.BuiltFresh.{built-fresh, built-first}
-use Rattle.text_tests.proofs.replays.made.Goals as goal
-
-pub returns-clause-fresh : goal.returns-clause-fresh
-returns-clause-fresh c = λ n l. let h = built-fresh c.args.points.now c.args.tris.now c.in_ok-mesh.mesh.mesh c.in_ok-mesh.ensures.ok n l in omega (arith, h)
-
-pub returns-clause-names : goal.returns-clause-names
-returns-clause-names c = sym (built-first c.args.points.now c.args.tris.now c.in_ok-mesh.mesh.mesh c.in_ok-mesh.ensures.ok)
