@@ -1,5 +1,5 @@
 -- What holds between the parts of one try.
-use Rattle.std.specs.Prelude.{◌≡◌, ℕ, List, Option, Some, None, Contains, true, is_some}
+use Rattle.std.specs.Prelude.{◌≡◌, ◌<◌, ℕ, List, Option, Some, None, Contains, true, is_some}
 use Rattle.pf_model.specs.declared.Band.{Band}
 use Rattle.pf_model.specs.declared.Op.{Op}
 use Rattle.pf_model.specs.declared.Op.TheVariants.{Flip, Bisect, Contract}
@@ -70,6 +70,11 @@ IsRefusal (Done t) = ⊥
 IsRefusal Spent = ⊥
 IsRefusal Memory = ⊥
 IsRefusal _ = Unit {0}
+
+-- the ticket of an operation that was made is below this number
+abbrev pub IsTicketBelow : ℕ → Answer → Type 0
+IsTicketBelow n (Done t) = t < n
+IsTicketBelow n _ = Unit {0}
 
 -- what is said of an operation that is asked about, where nobody else is, and this is the mesh: None says that it passes
 abbrev pub TellsProbe : Undivided → ℕ → Op → Option Answer → Type 0

@@ -10,7 +10,7 @@ ghost use Rattle.pf_core_model.specs.Right.{IsEnd};
 ghost use Rattle.pf_holder.specs.Facts.{LendsAll, IsJudged, HoldsCavity, IsNearLent, won_pair, mesh_alone};
 ghost use Rattle.pf_holder.specs.Prepared.{IsReady};
 ghost use Rattle.pf_holder.specs.Answers.{IsBacked, IsEntered, IsInCavity, HoldsStar, IsFailing, TellsOf, IsDone, AreEndsNames, FoundNothing, IsJudgedAnswer};
-ghost use Rattle.pf_attempt.specs.Stages.{judged_first, judged_last, HoldsEnds, HoldsPart, CanMake, PassesHeld, IsRefusal};
+ghost use Rattle.pf_attempt.specs.Stages.{judged_first, judged_last, HoldsEnds, HoldsPart, CanMake, PassesHeld, IsRefusal, IsTicketBelow};
 
 use pf_cavity::{Need, need};
 use pf_core_model::{Answer, Asked};
@@ -29,8 +29,9 @@ use std::alloc::Global;
 /// first condition that fails. Patch and copies are made last, where want of memory gives `Memory`, and the
 /// operation is committed in its normal form.
 ///
-/// Each answer is backed by what the holder came to know in the call. Where it is alone, an operation that
-/// passes, with both ends live, is done unless memory is wanting.
+/// Each answer is backed by what the holder came to know in the call. The ticket of an operation that was made is one
+/// that it had not seen, and is seen afterwards. Where it is alone, an operation that passes, with both ends live, is
+/// done unless memory is wanting.
 pub fn attempt<H: Holder>(alloc: Global, h: &mut H, chunk: u16, op: Op) -> Answer
     requires nothing { (H.pairs h.old ≡ []) × (H.unborn h.old ≡ None) × (H.owed h.old ≡ []) }
     requires lends { LendsAll (H.lent h.old) (H.pairs h.old) }
@@ -41,6 +42,7 @@ pub fn attempt<H: Holder>(alloc: Global, h: &mut H, chunk: u16, op: Op) -> Answe
     ensures entered { IsEntered chunk op (H.allowance h.old) (H.entries h.old) (H.allowance h.new) (H.entries h.new) result }
     ensures right { IsBacked (H.opening h.old) chunk op (H.seen_at h.old) (H.gained h.old h.new) result }
     ensures seen { H.seen_at h.old ≤ H.seen_at h.new }
+    ensures below { IsTicketBelow (H.seen_at h.new) result }
     ensures alone { H.alone h.old → TellsOf (mesh_alone (H.opening h.old) (H.entries h.old)) chunk op result }
     ensures judged { 0 < H.allowance h.old → AreEndsNames (H.opening h.old) op → FoundNothing (H.gained h.old h.new) → IsJudgedAnswer result }
     ensures done { H.alone h.old → 0 < H.allowance h.old → IsFailing (mesh_alone (H.opening h.old) (H.entries h.old)) chunk op None → IsDone result }
@@ -64,6 +66,7 @@ fn tried<H: Holder>(alloc: Global, h: &mut H, chunk: u16, op: Op) -> Answer
     ensures entered { IsEntered chunk op (H.allowance h.old) (H.entries h.old) (H.allowance h.new) (H.entries h.new) result }
     ensures right { IsBacked (H.opening h.old) chunk op (H.seen_at h.old) (H.gained h.old h.new) result }
     ensures seen { H.seen_at h.old ≤ H.seen_at h.new }
+    ensures below { IsTicketBelow (H.seen_at h.new) result }
     ensures alone { H.alone h.old → TellsOf (mesh_alone (H.opening h.old) (H.entries h.old)) chunk op result }
 {
     if let Some(answer) = judged_held(h, chunk, op) {
@@ -292,6 +295,7 @@ fn made<H: Holder>(alloc: Global, h: &mut H, chunk: u16, op: Op) -> Answer
     ensures entered { IsEntered chunk op (H.allowance h.old) (H.entries h.old) (H.allowance h.new) (H.entries h.new) result }
     ensures right { IsBacked (H.opening h.old) chunk op (H.seen_at h.old) (H.gained h.old h.new) result }
     ensures seen { H.seen_at h.old ≤ H.seen_at h.new }
+    ensures below { IsTicketBelow (H.seen_at h.new) result }
     ensures alone { H.alone h.old → TellsOf (mesh_alone (H.opening h.old) (H.entries h.old)) chunk op result }
 {
     let normal = op.normal();

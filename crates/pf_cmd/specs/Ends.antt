@@ -11,7 +11,9 @@ use Rattle.pf_cmd.specs.Input.{files_in}
 use Rattle.pf_cmd.specs.Output.{Given, written}
 use Rattle.pf_cmd.specs.CutOff.{IsCutAt}
 use Rattle.pf_cmd.specs.Causes.{IsOnlyRead, IsQuiet, Explains}
-use Rattle.pf_cmd.specs.Commands.{Command, Input, input_in, reads_of, MayGive}
+use Rattle.pf_cmd.specs.declared.words.Task.{Task}
+use Rattle.pf_cmd.specs.declared.words.Task.TheVariants as act
+use Rattle.pf_cmd.specs.Commands.{Command, Input, input_in, reads_of, MayGive, demo_report}
 
 -- the files, as they were, have no refusal, and this is given of what they say
 pub record IsGiven (command : Command) (old : Seen) (given : Given) : Type 0 where
@@ -26,9 +28,15 @@ pub record IsDone (command : Command) (old new : Seen) (report : List ℕ) : Typ
   pub files : (name : List ℕ) → held new.told name ≡ written given.writes (held old.told) name
   pub says : report ≡ given.report
 
+-- the report of a command that reads no file is the defined one, whatever a shelf tells
+abbrev pub IsFileless : Task → List ℕ → Type 0
+IsFileless (act.Demo cells) report = report ≡ demo_report cells
+IsFileless task report = Unit {0}
+
 -- a command is done, and no fault was counted
 pub record Finishes (command : Command) (old new : Seen) (report : List ℕ) : Type 0 where
   pub done : Tells old.told → IsDone command old new report
+  pub fileless : IsFileless command.task report
   pub quiet : IsQuiet old new
   pub write_faults : new.write_faults ≡ old.write_faults
 

@@ -16,7 +16,8 @@ use Rattle.pf_holder.specs.Facts.{won_pair, lost_to}
 use Rattle.pf_holder.specs.Answers.{IsBacked, IsEntered}
 use Rattle.pf_holder.proofs.Moved.{right_moved}
 use Rattle.pf_wishes.specs.First.{first_wish_of}
-use Rattle.pf_driver.specs.Visits.{IsTried, IsAmong, IsAnswered, IsVisited, HasGrown, HasVisited}
+use Rattle.pf_attempt.specs.Stages.{IsTicketBelow}
+use Rattle.pf_driver.specs.Visits.{IsTried, IsAmong, IsAnswered, IsVisited, IsMade, HasGrown, HasVisited}
 use Rattle.pf_driver.specs.declared.turns.Turn.{Turn}
 use Rattle.pf_driver.specs.declared.turns.Turn.TheVariants as turns
 use Rattle.pf_driver.specs.declared.driving.DriveEnd.{DriveEnd}
@@ -45,20 +46,39 @@ joined : (a b c x y : List Entry) → b ≡ x ++ a → c ≡ y ++ b → c ≡ (y
 joined a b c x y e f = f ∙ (ap (λ l. y ++ l) e ∙ sym (append_assoc y x a))
 
 -- growth
-pub grown_none : (rich : ℕ) (before : List Entry) (left : ℕ) (after : List Entry) → after ≡ before → left ≡ rich → HasGrown rich before left after
-grown_none rich before left after e f = record { added = []; grown = e; paid = (let k : left + 0 ≡ rich = omega (arith, f) in k) }
+in_either : (e : Entry) (xs ys : List Entry) → In e (xs ++ ys) → In e xs ⊎ In e ys
+in_either e [] ys h = inr h
+in_either e (x ∷ xs) ys (inl k) = inl (inl k)
+in_either e (x ∷ xs) ys (inr k) = elim (in_either e xs ys k) [ inl h ↦ inl (inr h) | inr h ↦ inr h ]
 
-pub grown_then : (r0 : ℕ) (e0 : List Entry) (r1 : ℕ) (e1 : List Entry) (r2 : ℕ) (e2 : List Entry) → HasGrown r0 e0 r1 e1 → HasGrown r1 e1 r2 e2 → HasGrown r0 e0 r2 e2
-grown_then r0 e0 r1 e1 r2 e2 a b = record { added = b.added ++ a.added; grown = joined e0 e1 e2 a.added b.added a.grown b.grown; paid = (let k = a.paid in let l = b.paid in let n = append_length b.added a.added in omega (arith, k, l, n)) }
+made_within : (f t f' t' : ℕ) (e : Entry) → f' ≤ f → t ≤ t' → IsMade f t e → IsMade f' t' e
+made_within f t f' t' e l r x = record { op = x.op; normal = x.normal; since = (let k = x.since in omega (arith, k, l)); below = (let k = x.below in omega (arith, k, r)) }
 
-pub grown_by : (chunk : ℕ) (op : Op) (rich : ℕ) (before : List Entry) (left : ℕ) (after : List Entry) (a : Answer) → IsEntered chunk op rich before left after a → HasGrown rich before left after
-grown_by chunk op rich before left after (Done t) e = record { added = record { ticket = t; chunk = chunk; op = normal_of op } ∷ []; grown = e.1; paid = e.0 }
-grown_by chunk op rich before left after (Refused t why) e = grown_none rich before left after e.2 e.1
-grown_by chunk op rich before left after (Busy t n k) e = grown_none rich before left after e.2 e.1
-grown_by chunk op rich before left after (Gone t n) e = grown_none rich before left after e.2 e.1
-grown_by chunk op rich before left after (Unborn n) e = grown_none rich before left after e.2 e.1
-grown_by chunk op rich before left after Spent e = grown_none rich before left after e.2 e.1
-grown_by chunk op rich before left after Memory e = grown_none rich before left after e.2 e.1
+pub grown_none : (s0 rich : ℕ) (before : List Entry) (s1 left : ℕ) (after : List Entry) → after ≡ before → left ≡ rich → s0 ≤ s1 → HasGrown s0 rich before s1 left after
+grown_none s0 rich before s1 left after e f s = record { added = []; grown = e; paid = (let k : left + 0 ≡ rich = omega (arith, f) in k); made = λ e h. absurd h; seen = s }
+
+pub grown_then : (s0 r0 : ℕ) (e0 : List Entry) (s1 r1 : ℕ) (e1 : List Entry) (s2 r2 : ℕ) (e2 : List Entry) → HasGrown s0 r0 e0 s1 r1 e1 → HasGrown s1 r1 e1 s2 r2 e2 → HasGrown s0 r0 e0 s2 r2 e2
+grown_then s0 r0 e0 s1 r1 e1 s2 r2 e2 a b =
+    record {
+      added = b.added ++ a.added;
+      grown = joined e0 e1 e2 a.added b.added a.grown b.grown;
+      paid = (let k = a.paid in let l = b.paid in let n = append_length b.added a.added in omega (arith, k, l, n));
+      made = λ e h. elim (in_either e b.added a.added h) [ inl k ↦ made_within s1 s2 s0 s2 e a.seen (omega arith) (b.made e k) | inr k ↦ made_within s0 s1 s0 s2 e (omega arith) b.seen (a.made e k) ];
+      seen = (let k = a.seen in let l = b.seen in omega (arith, k, l));
+    }
+
+made_alone : (s0 s1 : ℕ) (chunk : ℕ) (op : Op) (t : ℕ) → s0 ≤ t → t < s1 → (e : Entry) → In e (record { ticket = t; chunk = chunk; op = normal_of op } ∷ []) → IsMade s0 s1 e
+made_alone s0 s1 chunk op t l r e (inl k) = subst (IsMade s0 s1) (sym k) record { op = op; normal = refl; since = l; below = r }
+made_alone s0 s1 chunk op t l r e (inr k) = absurd k
+
+pub grown_by : (o : Opening) (chunk : ℕ) (op : Op) (G : Gain → Type 0) (s0 rich : ℕ) (before : List Entry) (s1 left : ℕ) (after : List Entry) (a : Answer) → IsEntered chunk op rich before left after a → IsBacked o chunk op s0 G a → IsTicketBelow s1 a → s0 ≤ s1 → HasGrown s0 rich before s1 left after
+grown_by o chunk op G s0 rich before s1 left after (Done t) e r b s = record { added = record { ticket = t; chunk = chunk; op = normal_of op } ∷ []; grown = e.1; paid = e.0; made = made_alone s0 s1 chunk op t r b; seen = s }
+grown_by o chunk op G s0 rich before s1 left after (Refused t why) e r b s = grown_none s0 rich before s1 left after e.2 e.1 s
+grown_by o chunk op G s0 rich before s1 left after (Busy t n k) e r b s = grown_none s0 rich before s1 left after e.2 e.1 s
+grown_by o chunk op G s0 rich before s1 left after (Gone t n) e r b s = grown_none s0 rich before s1 left after e.2 e.1 s
+grown_by o chunk op G s0 rich before s1 left after (Unborn n) e r b s = grown_none s0 rich before s1 left after e.2 e.1 s
+grown_by o chunk op G s0 rich before s1 left after Spent e r b s = grown_none s0 rich before s1 left after e.2 e.1 s
+grown_by o chunk op G s0 rich before s1 left after Memory e r b s = grown_none s0 rich before s1 left after e.2 e.1 s
 
 pub spent_by : (chunk : ℕ) (op : Op) (rich : ℕ) (before : List Entry) (left : ℕ) (after : List Entry) (a : Answer) → a ≡ Spent → IsEntered chunk op rich before left after a → left ≡ 0
 spent_by chunk op rich before left after a e h = let k = subst (λ w. IsEntered chunk op rich before left after w) e h in k.1 ∙ k.0
@@ -160,6 +180,6 @@ visited_next chunks o o1 s0 s1 G01 G02 G12 e0 e1 e2 names count same l f g a b =
     ]
 
 -- further turns
-pub visited_then : (chunks : List ℕ) (o : Opening) (s0 : ℕ) (G01 G02 : Gain → Type 0) (r1 : ℕ) (e0 e1 : List Entry) (r2 : ℕ) (e2 : List Entry) (names : List ℕ) (count : ℕ) → ((x : Gain) → G01 x → G02 x)
-    → HasVisited chunks o s0 G01 e0 e1 names count → HasGrown r1 e1 r2 e2 → HasVisited chunks o s0 G02 e0 e2 names count
-visited_then chunks o s0 G01 G02 r1 e0 e1 r2 e2 names count f a b = record { added = b.added ++ a.added; grown = joined e0 e1 e2 a.added b.added a.grown b.grown; visited = λ k h. visited_moved chunks o s0 s0 G01 G02 a.added (b.added ++ a.added) (slice_index_or names k 0) (omega arith) f (λ e i. in_later e b.added a.added i) (a.visited k h) }
+pub visited_then : (chunks : List ℕ) (o : Opening) (s0 : ℕ) (G01 G02 : Gain → Type 0) (e0 : List Entry) (s1 r1 : ℕ) (e1 : List Entry) (s2 r2 : ℕ) (e2 : List Entry) (names : List ℕ) (count : ℕ) → ((x : Gain) → G01 x → G02 x)
+    → HasVisited chunks o s0 G01 e0 e1 names count → HasGrown s1 r1 e1 s2 r2 e2 → HasVisited chunks o s0 G02 e0 e2 names count
+visited_then chunks o s0 G01 G02 e0 s1 r1 e1 s2 r2 e2 names count f a b = record { added = b.added ++ a.added; grown = joined e0 e1 e2 a.added b.added a.grown b.grown; visited = λ k h. visited_moved chunks o s0 s0 G01 G02 a.added (b.added ++ a.added) (slice_index_or names k 0) (omega arith) f (λ e i. in_later e b.added a.added i) (a.visited k h) }

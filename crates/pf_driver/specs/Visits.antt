@@ -1,5 +1,5 @@
 -- When a drive has visited a node.
-use Rattle.std.specs.Prelude.{◌≡◌, ◌⊎◌, ℕ, ◌+◌, ◌<◌, List, ◌++◌, length, slice_index_or, Some}
+use Rattle.std.specs.Prelude.{◌≡◌, ◌⊎◌, ℕ, ◌+◌, ◌<◌, ◌≤◌, List, ◌++◌, length, slice_index_or, Some}
 use Rattle.pf_model.specs.declared.Op.{Op}
 use Rattle.pf_model.specs.declared.Entry.{Entry}
 use Rattle.pf_model.specs.Ends.{normal_of}
@@ -45,11 +45,21 @@ pub record IsLookedAt (chunks : List ℕ) (o : Opening) (seen : ℕ) (gained : G
 abbrev pub IsVisited : List ℕ → Opening → ℕ → (Gain → Type 0) → List Entry → ℕ → Type 0
 IsVisited chunks o seen gained added n = gained (dead n) ⊎ (gained (never n) ⊎ (((k : ℕ) × gained (lost_to n k)) ⊎ IsLookedAt chunks o seen gained added n))
 
--- the entries grew by some, each of which took 1 from the allowance
-pub record HasGrown (rich : ℕ) (before : List Entry) (left : ℕ) (after : List Entry) : Type 0 where
+-- the entry of a try that was done, in the normal form of its operation, with a ticket from the one number to below the other
+pub record IsMade (from to : ℕ) (e : Entry) : Type 0 where
+  pub op : Op
+  pub normal : e.op ≡ normal_of op
+  pub since : from ≤ e.ticket
+  pub below : e.ticket < to
+
+-- the entries grew by those of tries that were done while the tickets that are seen grew from the one number to the other;
+-- each took 1 from the allowance
+pub record HasGrown (from rich : ℕ) (before : List Entry) (to left : ℕ) (after : List Entry) : Type 0 where
   pub added : List Entry
   pub grown : after ≡ added ++ before
   pub paid : left + length added ≡ rich
+  pub made : (e : Entry) → In e added → IsMade from to e
+  pub seen : from ≤ to
 
 -- the first so many of these names were visited, and the entries grew by those of their answers at least
 pub record HasVisited (chunks : List ℕ) (o : Opening) (seen : ℕ) (gained : Gain → Type 0) (before after : List Entry) (names : List ℕ) (count : ℕ) : Type 0 where

@@ -44,7 +44,7 @@ fn start_turns<H: Holder, G: Gate>(
     ensures nothing { (H.pairs h.new ≡ []) × (H.unborn h.new ≡ None) × (H.owed h.new ≡ []) }
     ensures lends { LendsAll (H.lent h.new) (H.pairs h.new) }
     ensures seen { H.seen_at h.old ≤ H.seen_at h.new }
-    ensures grown { HasGrown (H.allowance h.old) (H.entries h.old) (H.allowance h.new) (H.entries h.new) }
+    ensures grown { HasGrown (H.seen_at h.old) (H.allowance h.old) (H.entries h.old) (H.seen_at h.new) (H.allowance h.new) (H.entries h.new) }
     ensures spent { IsSpentAt (H.allowance h.new) result }
     ensures visited { OnWent result (HasVisited chunks.now (H.opening h.old) (H.seen_at h.old) (H.gained h.old h.new) (H.entries h.old) (H.entries h.new) start.now count) }
 {
@@ -80,7 +80,7 @@ fn later_turns<H: Holder, G: Gate>(
     ensures nothing { (H.pairs h.new ≡ []) × (H.unborn h.new ≡ None) × (H.owed h.new ≡ []) }
     ensures lends { LendsAll (H.lent h.new) (H.pairs h.new) }
     ensures seen { H.seen_at h.old ≤ H.seen_at h.new }
-    ensures grown { HasGrown (H.allowance h.old) (H.entries h.old) (H.allowance h.new) (H.entries h.new) }
+    ensures grown { HasGrown (H.seen_at h.old) (H.allowance h.old) (H.entries h.old) (H.seen_at h.new) (H.allowance h.new) (H.entries h.new) }
     ensures spent { IsSpentAt (H.allowance h.new) result }
 {
     'tasks: for turn in first..turns {
@@ -131,7 +131,7 @@ fn all_turns<H: Holder, G: Gate>(
     ensures nothing { (H.pairs h.new ≡ []) × (H.unborn h.new ≡ None) × (H.owed h.new ≡ []) }
     ensures lends { LendsAll (H.lent h.new) (H.pairs h.new) }
     ensures seen { H.seen_at h.old ≤ H.seen_at h.new }
-    ensures grown { HasGrown (H.allowance h.old) (H.entries h.old) (H.allowance h.new) (H.entries h.new) }
+    ensures grown { HasGrown (H.seen_at h.old) (H.allowance h.old) (H.entries h.old) (H.seen_at h.new) (H.allowance h.new) (H.entries h.new) }
     ensures spent { IsSpentAt (H.allowance h.new) result }
     ensures visited { OnWent result (HasVisited chunks.now (H.opening h.old) (H.seen_at h.old) (H.gained h.old h.new) (H.entries h.old) (H.entries h.new) start.now (min turns (length start.now))) }
 {
@@ -186,7 +186,7 @@ pub fn drive<H: Holder, G: Gate>(
     ensures nothing { (H.pairs h.new ≡ []) × (H.unborn h.new ≡ None) × (H.owed h.new ≡ []) }
     ensures lends { LendsAll (H.lent h.new) (H.pairs h.new) }
     ensures seen { H.seen_at h.old ≤ H.seen_at h.new }
-    ensures grown { HasGrown (H.allowance h.old) (H.entries h.old) (H.allowance h.new) (H.entries h.new) }
+    ensures grown { HasGrown (H.seen_at h.old) (H.allowance h.old) (H.entries h.old) (H.seen_at h.new) (H.allowance h.new) (H.entries h.new) }
     ensures spent { IsEndAt (H.allowance h.new) result }
     ensures visited { OnDone result (HasVisited chunks.now (H.opening h.old) (H.seen_at h.old) (H.gained h.old h.new) (H.entries h.old) (H.entries h.new) start.now (min turns (length start.now))) }
 {

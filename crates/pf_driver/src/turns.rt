@@ -65,7 +65,7 @@ fn wish_tried<H: Holder>(alloc: Global, h: &mut H, asked: Asked, n: u32, order: 
     ensures nothing { (H.pairs h.new ≡ []) × (H.unborn h.new ≡ None) × (H.owed h.new ≡ []) }
     ensures lends { LendsAll (H.lent h.new) (H.pairs h.new) }
     ensures seen { H.seen_at h.old ≤ H.seen_at h.new }
-    ensures grown { HasGrown (H.allowance h.old) (H.entries h.old) (H.allowance h.new) (H.entries h.new) }
+    ensures grown { HasGrown (H.seen_at h.old) (H.allowance h.old) (H.entries h.old) (H.seen_at h.new) (H.allowance h.new) (H.entries h.new) }
     ensures spent { IsSpentAt (H.allowance h.new) result }
     ensures answered { OnWent result (HasAnswered (H.opening h.old) asked (H.seen_at h.old) (H.gained h.old h.new) (H.entries h.old) (H.entries h.new)) }
 {
@@ -90,7 +90,7 @@ pub fn start_turn<H: Holder>(
     ensures nothing { (H.pairs h.new ≡ []) × (H.unborn h.new ≡ None) × (H.owed h.new ≡ []) }
     ensures lends { LendsAll (H.lent h.new) (H.pairs h.new) }
     ensures seen { H.seen_at h.old ≤ H.seen_at h.new }
-    ensures grown { HasGrown (H.allowance h.old) (H.entries h.old) (H.allowance h.new) (H.entries h.new) }
+    ensures grown { HasGrown (H.seen_at h.old) (H.allowance h.old) (H.entries h.old) (H.seen_at h.new) (H.allowance h.new) (H.entries h.new) }
     ensures spent { IsSpentAt (H.allowance h.new) result }
     ensures visited { OnWent result (HasVisitedOne chunks.now (H.opening h.old) (H.seen_at h.old) (H.gained h.old h.new) (H.entries h.old) (H.entries h.new) n) }
 {
@@ -161,7 +161,7 @@ fn edge_tried<H: Holder>(
     ensures nothing { (H.pairs h.new ≡ []) × (H.unborn h.new ≡ None) × (H.owed h.new ≡ []) }
     ensures lends { LendsAll (H.lent h.new) (H.pairs h.new) }
     ensures seen { H.seen_at h.old ≤ H.seen_at h.new }
-    ensures grown { HasGrown (H.allowance h.old) (H.entries h.old) (H.allowance h.new) (H.entries h.new) }
+    ensures grown { HasGrown (H.seen_at h.old) (H.allowance h.old) (H.entries h.old) (H.seen_at h.new) (H.allowance h.new) (H.entries h.new) }
     ensures spent { IsSpentAt (H.allowance h.new) result }
 {
     let answer = attempt(alloc, h, asked.chunk, asked.op);
@@ -226,7 +226,7 @@ fn edge_turn<H: Holder>(
     ensures nothing { (H.pairs h.new ≡ []) × (H.unborn h.new ≡ None) × (H.owed h.new ≡ []) }
     ensures lends { LendsAll (H.lent h.new) (H.pairs h.new) }
     ensures seen { H.seen_at h.old ≤ H.seen_at h.new }
-    ensures grown { HasGrown (H.allowance h.old) (H.entries h.old) (H.allowance h.new) (H.entries h.new) }
+    ensures grown { HasGrown (H.seen_at h.old) (H.allowance h.old) (H.entries h.old) (H.seen_at h.new) (H.allowance h.new) (H.entries h.new) }
     ensures spent { IsSpentAt (H.allowance h.new) result }
 {
     match edge_planned(h, chunks, n, task, order) {
@@ -260,7 +260,7 @@ pub fn task_turn<H: Holder>(
     ensures nothing { (H.pairs h.new ≡ []) × (H.unborn h.new ≡ None) × (H.owed h.new ≡ []) }
     ensures lends { LendsAll (H.lent h.new) (H.pairs h.new) }
     ensures seen { H.seen_at h.old ≤ H.seen_at h.new }
-    ensures grown { HasGrown (H.allowance h.old) (H.entries h.old) (H.allowance h.new) (H.entries h.new) }
+    ensures grown { HasGrown (H.seen_at h.old) (H.allowance h.old) (H.entries h.old) (H.seen_at h.new) (H.allowance h.new) (H.entries h.new) }
     ensures spent { IsSpentAt (H.allowance h.new) result }
 {
     match task {

@@ -11,16 +11,19 @@ use pf_geom::NoMemory;
 use pf_mesh::{Mesh, build};
 use pf_model::built_is_fresh;
 use std::alloc::Global;
+use thiserror::Error;
 
 /// The most cells a side that a grid is made with.
 pub const MOST_SIDE: u32 = 64;
 
 /// Why there is no grid.
-#[derive(Clone, Copy, Debug, PartialEq, Eq)]
+#[derive(Clone, Copy, Debug, PartialEq, Eq, Error)]
 pub enum GenErr {
     /// The cells a side aren't from 1 to 64.
+    #[error("a grid has 1 to 64 cells a side")]
     Size,
     /// Memory ran out.
+    #[error("memory ran out")]
     Memory,
 }
 

@@ -32,6 +32,6 @@ pub record IsPartFor (m : Undivided) (workers w : ℕ) (part : Part) : Type 0 wh
 -- what a drive from this part tells: what was seen, what is left of the allowance, and the entries, before and after; and how it ended
 pub record HasDriven (part : Part) (o : Opening) (seen seen' : ℕ) (gained : Gain → Type 0) (rich : ℕ) (before : List Entry) (left : ℕ) (after : List Entry) (turns : ℕ) (end : DriveEnd) : Type 0 where
   pub later : seen ≤ seen'
-  pub grown : HasGrown rich before left after
+  pub grown : HasGrown seen rich before seen' left after
   pub spent : IsEndAt left end
   pub visited : OnDone end (HasVisited part.chunks.items o seen gained before after part.start.items (min turns (length part.start.items)))

@@ -84,6 +84,7 @@ returns-in-Ok-clause-done g c = record {
         ∙ ap (λ look. written (map named_text c.in_ok-output.output.files.items) look name) (held-before (g.S.Shelf.seen c.args.shelf.now) (g.S.Shelf.seen c.refine.new.shelf) c.in_ok-after.ensures.only_read.files));
     says = refl;
   };
+  fileless = tt;
   quiet = quiet-trans _ _ _ c.in_ok-after.ensures.quiet c.write_files.ensures.quiet;
   write_faults = c.in-Ok.ensures.no_fault ∙ c.in_ok-after.ensures.only_read.write_faults;
 }

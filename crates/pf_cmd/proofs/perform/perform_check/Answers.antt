@@ -40,6 +40,7 @@ returns-clause-done g c = record {
     files = λ name. c.in_ok-listed.ensures.only_read.files.same name;
     says = c.in_ok-report.ensures.text ∙ ap (λ parts. check_report parts.chunks c.in_ok-listed.field-0.listed.mesh.mesh) c.parts.view_is;
   };
+  fileless = tt;
   quiet = c.in_ok-listed.ensures.quiet;
   write_faults = c.in_ok-listed.ensures.only_read.write_faults;
 }

@@ -29,6 +29,7 @@ returns-clause-done g c = record {
         files = λ name. c.in_ok-report.ensures.only_read.files.same name;
         says = listed.2;
       };
+  fileless = tt;
   quiet = c.in_ok-report.ensures.quiet;
   write_faults = c.in_ok-report.ensures.only_read.write_faults;
 }

@@ -10,6 +10,7 @@ returns-clause-done g c = record {
     files = λ name. refl;
     says = c.in_ok-report.ensures.text;
   };
+  fileless = c.in_ok-report.ensures.text;
   quiet = record { read_faults = refl; misses = refl };
   write_faults = refl;
 }

@@ -8,7 +8,7 @@ returns-in-Spent-clause-grown g c =
     let h0 = c.args.h.now in
     let h1 = c.tasks.h in
     let h2 = c.task_turn.new.h in
-    grown_then (m.allowance h0) (m.entries h0) (m.allowance h1) (m.entries h1) (m.allowance h2) (m.entries h2) c.tasks.invariant.4 c.task_turn.ensures.grown
+    grown_then (m.seen_at h0) (m.allowance h0) (m.entries h0) (m.seen_at h1) (m.allowance h1) (m.entries h1) (m.seen_at h2) (m.allowance h2) (m.entries h2) c.tasks.invariant.4 c.task_turn.ensures.grown
 
 pub returns-in-Memory-clause-grown : goal.returns-in-Memory-clause-grown
 returns-in-Memory-clause-grown g c =
@@ -16,7 +16,7 @@ returns-in-Memory-clause-grown g c =
     let h0 = c.args.h.now in
     let h1 = c.tasks.h in
     let h2 = c.task_turn.new.h in
-    grown_then (m.allowance h0) (m.entries h0) (m.allowance h1) (m.entries h1) (m.allowance h2) (m.entries h2) c.tasks.invariant.4 c.task_turn.ensures.grown
+    grown_then (m.seen_at h0) (m.allowance h0) (m.entries h0) (m.seen_at h1) (m.allowance h1) (m.entries h1) (m.seen_at h2) (m.allowance h2) (m.entries h2) c.tasks.invariant.4 c.task_turn.ensures.grown
 
 pub tasks-preserved : goal.tasks-preserved
 tasks-preserved g c =
@@ -31,5 +31,5 @@ tasks-preserved g c =
       e.nothing,
       e.lends,
       (let k = i.3 in let l = e.seen in omega (arith, k, l)),
-      grown_then (m.allowance h0) (m.entries h0) (m.allowance h1) (m.entries h1) (m.allowance h2) (m.entries h2) i.4 e.grown,
+      grown_then (m.seen_at h0) (m.allowance h0) (m.entries h0) (m.seen_at h1) (m.allowance h1) (m.entries h1) (m.seen_at h2) (m.allowance h2) (m.entries h2) i.4 e.grown,
     )

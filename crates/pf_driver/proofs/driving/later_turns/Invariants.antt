@@ -11,4 +11,4 @@ invariant-tasks g l =
     × ((m.pairs l.h ≡ []) × (m.unborn l.h ≡ None) × (m.owed l.h ≡ []))
     × LendsAll (g.H.Rings.lent l.h) (m.pairs l.h)
     × (m.seen_at l.fn.h ≤ m.seen_at l.h)
-    × HasGrown (m.allowance l.fn.h) (m.entries l.fn.h) (m.allowance l.h) (m.entries l.h)
+    × HasGrown (m.seen_at l.fn.h) (m.allowance l.fn.h) (m.entries l.fn.h) (m.seen_at l.h) (m.allowance l.h) (m.entries l.h)

@@ -6,4 +6,4 @@ returns-clause-grown g c =
     let m = g.H.Holder in
     let h = c.args.h.now in
     let n = c.attempt-answer.new.h in
-    grown_by c.args.asked.chunk c.args.asked.op (m.allowance h) (m.entries h) (m.allowance n) (m.entries n) c.attempt-answer.result c.attempt-answer.ensures.entered
+    grown_by (m.opening h) c.args.asked.chunk c.args.asked.op (m.gained h n) (m.seen_at h) (m.allowance h) (m.entries h) (m.seen_at n) (m.allowance n) (m.entries n) c.attempt-answer.result c.attempt-answer.ensures.entered c.attempt-answer.ensures.right c.attempt-answer.ensures.below c.attempt-answer.ensures.seen

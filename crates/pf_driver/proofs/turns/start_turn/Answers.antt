@@ -5,7 +5,7 @@ use Rattle.pf_core_model.specs.Core.{Opening}
 use Rattle.pf_wishes.proofs.Firsts.{first_wish_is_by_chunk}
 use Rattle.pf_driver.specs.declared.looking.Look.TheVariants.{Seen}
 use Rattle.pf_driver.specs.Turns.{HasAnswered, HasVisitedOne, TellsLook}
-use Rattle.pf_driver.proofs.Moved.{visited_answered, visited_idle, on_went}
+use Rattle.pf_driver.proofs.Moved.{grown_none, grown_then, visited_answered, visited_idle, on_went}
 use Rattle.pf_driver.proofs.turns.start_turn.Goals as goal
 
 pub wish_tried-requires-clause-near : goal.wish_tried-requires-clause-near
@@ -45,3 +45,14 @@ returns-in-None-clause-visited g c =
     let h1 = c.look_at.new.h in
     visited_idle c.args.chunks.now (m.opening h0) (m.seen_at h0) (m.gained h0 h1) (m.entries h0) (m.entries h1) c.args.n c.look_at.ensures.kept.0
     (subst (λ (w : Option Asked). TellsLook c.args.chunks.now (m.opening h0) (m.gained h0 h1) c.args.n (Seen w)) c.in-None.is c.in-Seen.ensures.told)
+
+pub returns-in-Some-clause-grown : goal.returns-in-Some-clause-grown
+returns-in-Some-clause-grown g c =
+    let m = g.H.Holder in
+    let h0 = c.args.h.now in
+    let h1 = c.look_at.new.h in
+    let h2 = c.wish_tried.new.h in
+    let k = c.look_at.ensures.kept in
+    grown_then (m.seen_at h0) (m.allowance h0) (m.entries h0) (m.seen_at h1) (m.allowance h1) (m.entries h1) (m.seen_at h2) (m.allowance h2) (m.entries h2)
+    (grown_none (m.seen_at h0) (m.allowance h0) (m.entries h0) (m.seen_at h1) (m.allowance h1) (m.entries h1) k.0 k.1 k.2)
+    c.wish_tried.ensures.grown
