@@ -18,6 +18,7 @@ use pf_geom::Point;
 use pf_mesh::{
     ApplyErr, Band, BuildErr, Cond, Entry, Mesh, Op, RestLine, RunErr, Site, Tri, build,
 };
+use small_meshes::{mesh_at, opened, points_at};
 use std::alloc::{AllocError, Global};
 use std::process::Abort;
 use std::test::Fail;
@@ -38,54 +39,11 @@ fn site(name: u32, x: i32, y: i32) -> Site {
     }
 }
 
-// Points with small coordinates.
-fn points_at(alloc: Global, places: &[(i16, i16)]) -> Result<Vec<Point>, AllocError>
-    ensures { IfOk result (λ points. All IsInRange points.items) }
-{
-    let mut points = Vec::new(alloc);
-    for (x, y) in places {
-        points.push(Point {
-            x: i32::from(*x),
-            y: i32::from(*y),
-        })?;
-    }
-    Ok(points)
-}
-
-// The mesh of these, before the first operation.
-fn opened(alloc: Global, points: &[Point], tris: &[[u32; 3]]) -> Result<Mesh, BuildErr>
-    requires few_points { length points.now ≤ 1000 }
-    requires few_tris { length tris.now ≤ 1000 }
-    requires in_range { All IsInRange points.now }
-    ensures listed { IfOk result (λ m. AreListed tris.now m.mesh.tris) }
-    ensures fresh { IfOk result (λ m. IsFresh m.mesh 0) }
-    ensures few { IfOk result (λ m. m.mesh.first_new ≤ 1000) }
-{
-    let mesh = build(alloc, points, tris)?;
-    Ok(mesh)
-}
-
-// The mesh with these points and triangles, before the first operation.
-fn started<R: Abort + AllocGlobal>(
-    rt: &R,
-    places: &[(i16, i16)],
-    tris: &[[u32; 3]],
-) -> Result<Mesh, Fail>
-    ensures listed { IfOk result (λ m. AreListed tris.now m.mesh.tris) }
-    ensures fresh { IfOk result (λ m. IsFresh m.mesh 0) }
-    ensures few { IfOk result (λ m. m.mesh.first_new ≤ 1000) }
-{
-    let points = points_at(rt.alloc(), places)?;
-    assert!(rt; points.len() < 100 && tris.len() < 100);
-    let mesh = opened(rt.alloc(), &points, tris)?;
-    Ok(mesh)
-}
-
 fn kite<R: Abort + AllocGlobal>(rt: &R) -> Result<Mesh, Fail>
     ensures fresh { IfOk result (λ m. IsFresh m.mesh 0) }
     ensures few { IfOk result (λ m. m.mesh.first_new ≤ 1000) }
 {
-    let mesh = started(rt, &KITE, &[[0, 1, 2], [1, 0, 3]])?;
+    let mesh = mesh_at(rt.alloc(), &KITE, &[[0, 1, 2], [1, 0, 3]])?;
     Ok(mesh)
 }
 
@@ -118,7 +76,7 @@ fn laid<R: Abort + AllocGlobal>(
     ensures fresh { IfOk result (λ m. IsFresh m.mesh 0) }
     ensures few { IfOk result (λ m. m.mesh.first_new ≤ 1000) }
 {
-    let mesh = started(rt, places, tris)?;
+    let mesh = mesh_at(rt.alloc(), places, tris)?;
     let owners = owners_of(rt, owners, chunks)?;
     assert!(rt; owners.len() == tris.len());
     let mesh = mesh.with_tables(tris, owners, chunks, bands)?;

@@ -1,6 +1,5 @@
 //! Meshes of a few triangles, and the sums over them before and after operations.
-ghost use Rattle.std.specs.Prelude.{◌+◌, ◌≤◌, All, IfOk, length};
-ghost use Rattle.pf_geom.specs.Plane.{IsInRange};
+ghost use Rattle.std.specs.Prelude.{◌+◌, ◌≤◌};
 ghost use Rattle.pf_model.specs.Applied.{IsFresh};
 
 mod cover;
@@ -8,21 +7,10 @@ mod random;
 mod sums;
 
 use pf_geom::Point;
-use pf_mesh::{ApplyErr, BuildErr, Entry, Mesh, Op, Tri, build};
+use pf_mesh::{ApplyErr, Entry, Mesh, Op, Tri};
+use small_meshes::{mesh_at, opened, points_at};
 use std::alloc::Global;
 use std::test::Fail;
-
-// The mesh of these, before the first operation.
-fn opened(alloc: Global, points: &[Point], tris: &[[u32; 3]]) -> Result<Mesh, BuildErr>
-    requires few_points { length points.now ≤ 1000 }
-    requires few_tris { length tris.now ≤ 1000 }
-    requires in_range { All IsInRange points.now }
-    ensures fresh { IfOk result (λ m. IsFresh m.mesh 0) }
-    ensures few { IfOk result (λ m. m.mesh.first_new ≤ 1000) }
-{
-    let mesh = build(alloc, points, tris)?;
-    Ok(mesh)
-}
 
 // The operation with this ticket, by chunk 0.
 fn apply(mesh: &mut Mesh, ticket: u32, op: Op) -> Result<(), ApplyErr>

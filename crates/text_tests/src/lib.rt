@@ -5,8 +5,6 @@
 #[cfg(test)]
 mod journals;
 #[cfg(test)]
-mod meshes;
-#[cfg(test)]
 mod numbers;
 #[cfg(test)]
 mod replays;

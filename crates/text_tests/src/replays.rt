@@ -3,10 +3,10 @@ ghost use Rattle.std.specs.Prelude.{ℕ, ◌<◌, ◌≤◌, IfOk};
 ghost use Rattle.pf_model.specs.Conforming.{IsLive};
 ghost use Rattle.pf_model.specs.Replay.{HasTickets};
 
-use crate::meshes::mesh_at;
 use pf_journal::{ReplayErr, replay};
 use pf_mesh::{Cond, Mesh, Tri};
 use pf_model::{Entry, Op};
+use small_meshes::mesh_at;
 use std::process::Abort;
 use std::test::Fail;
 
@@ -16,7 +16,7 @@ fn square<R: Abort + AllocGlobal>(rt: &R) -> Result<Mesh, Fail>
     ensures few { IfOk result (λ m. m.mesh.first_new ≤ 1000) }
 {
     let mesh = mesh_at(
-        rt,
+        rt.alloc(),
         &[(0, 0), (4, 0), (4, 4), (0, 4)],
         &[[0, 1, 2], [0, 2, 3]],
     )?;

@@ -1,7 +1,7 @@
 //! The partition and the size table.
-use crate::meshes::mesh_at;
 use pf_model::Band;
 use pf_tables::{Parts, TableErr, part_text, read_part, read_size};
+use small_meshes::mesh_at;
 use std::alloc::{AllocError, Global};
 use std::process::Abort;
 use std::test::Fail;
@@ -42,7 +42,7 @@ fn each_fault_of_a_partition_is_named(rt: HostRuntime) {
 #[test]
 fn the_owners_of_a_mesh_are_written(rt: HostRuntime) -> Result<(), Fail> {
     let mesh = mesh_at(
-        &rt,
+        rt.alloc(),
         &[(0, 0), (8, 0), (4, 2), (4, -2)],
         &[[0, 1, 2], [1, 0, 3]],
     )?;

@@ -2,9 +2,9 @@
 ghost use Rattle.std.specs.Prelude.{All, IfOk};
 ghost use Rattle.pf_geom.specs.Plane.{IsInRange};
 
-use crate::meshes::mesh_of;
 use pf_geom::Point;
 use pf_mesh::Mesh;
+use small_meshes::mesh_of;
 use std::process::Abort;
 use std::test::Fail;
 use tri_files::{Nodes, TriErr, ele_text, node_text, read_ele, read_node};
@@ -64,7 +64,7 @@ fn the_square_is_read_and_written(rt: HostRuntime) -> Result<(), Fail> {
     assert_eq!(rt; nodes.points.as_slice(), CORNERS.as_slice());
     let triangles = triangles_in(&rt, SQUARE_ELE, &nodes)?;
     assert_eq!(rt; triangles.as_slice(), [[0, 1, 2], [0, 2, 3]].as_slice());
-    let m = mesh_of(&rt, &nodes.points, &triangles)?;
+    let m = mesh_of(rt.alloc(), &nodes.points, &triangles)?;
     let wanted = "4 2 0 0\n1 0 0\n2 4 0\n3 4 4\n4 0 4\n";
     assert_written(&rt, &m, nodes.base, wanted, "2 3 0\n1 1 2 3\n2 1 3 4\n")
 }
@@ -75,7 +75,7 @@ fn live_nodes_alone_are_written_and_triangles_turned(rt: HostRuntime) -> Result<
     let text =
         "# scaled\r\n\n 006 2 0 0\n0 +0 -0\t7 8 9\n1 9 9\n2 -4. 0\n3 0 -2.00#3\n4 7 7\n5 0 2";
     let nodes = nodes_in(&rt, text, 2)?;
-    let m = mesh_of(&rt, &nodes.points, &[[5, 0, 2], [0, 2, 3]])?;
+    let m = mesh_of(rt.alloc(), &nodes.points, &[[5, 0, 2], [0, 2, 3]])?;
     let wanted = "4 2 0 0\n0 0 0\n1 -8 0\n2 0 -4\n3 0 4\n";
     assert_written(&rt, &m, 0, wanted, "2 3 0\n0 0 1 2\n1 0 3 1\n")
 }

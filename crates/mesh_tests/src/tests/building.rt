@@ -32,7 +32,7 @@ fn assert_but_first<R: Abort + AllocGlobal>(rt: &R, mesh: &Mesh) {
 
 #[test]
 fn turns_a_clockwise_triangle_round(rt: HostRuntime) -> Result<(), Fail> {
-    let mesh = started(&rt, &SQUARE, &[[3, 2, 1]])?;
+    let mesh = mesh_at(rt.alloc(), &SQUARE, &[[3, 2, 1]])?;
     assert_tris(&rt, &mesh, &[tri(1, 2, 3)]);
     assert_but_first(&rt, &mesh);
     Ok(())

@@ -113,7 +113,7 @@ fn assert_refused<R: Abort + AllocGlobal>(
     (a, b): (u32, u32),
     cond: Cond,
 ) -> Result<(), Fail> {
-    let mut mesh = started(rt, places, tris)?;
+    let mut mesh = mesh_at(rt.alloc(), places, tris)?;
     fail_flip(rt, &mut mesh, 0, a, b, ApplyErr::Refused { cond });
     Ok(())
 }

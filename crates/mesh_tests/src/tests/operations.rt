@@ -18,7 +18,7 @@ fn assert_fault<R: Abort + AllocGlobal>(
     op: Op,
     fault: Option<ApplyErr>,
 ) -> Result<(), Fail> {
-    let mut mesh = started(rt, places, tris)?;
+    let mut mesh = mesh_at(rt.alloc(), places, tris)?;
     try_op(rt, &mut mesh, 0, op, fault);
     Ok(())
 }
@@ -45,7 +45,7 @@ fn changed<R: Abort + AllocGlobal>(
     tris: &[[u32; 3]],
     op: Op,
 ) -> Result<Mesh, Fail> {
-    let mut mesh = started(rt, places, tris)?;
+    let mut mesh = mesh_at(rt.alloc(), places, tris)?;
     pass(rt, &mut mesh, 0, op);
     Ok(mesh)
 }
@@ -75,7 +75,7 @@ fn assert_whole<R: Abort + AllocGlobal>(rt: &R, mesh: &Mesh) {
 
 #[test]
 fn bisects_the_square_and_contracts_it_back(rt: HostRuntime) -> Result<(), Fail> {
-    let mut mesh = started(&rt, &SQUARE, &[[0, 1, 2], [0, 2, 3]])?;
+    let mut mesh = mesh_at(rt.alloc(), &SQUARE, &[[0, 1, 2], [0, 2, 3]])?;
     pass(&rt, &mut mesh, 0, Op::Bisect { a: 2, b: 0 });
     assert_halves(&rt, &mesh);
     pass(&rt, &mut mesh, 1, Op::Contract { u: 4, v: 0 });

@@ -1,68 +1,25 @@
 //! Meshes of few names that are edited.
 ghost use Rattle.std.specs.Prelude.{◌≡◌, ◌+◌, ◌<◌, ◌≤◌, ◌∷◌, [], IfOk, length, All};
-ghost use Rattle.pf_geom.specs.Plane.{IsInRange};
 ghost use Rattle.pf_model.specs.Applied.{IsFresh};
 ghost use Rattle.pf_model.specs.Conforming.{HasDefault};
 ghost use Rattle.pf_model.specs.Ends.{first_end, second_end};
 ghost use Rattle.pf_model.specs.Tables.{AreListed};
 
-use pf_geom::{NoMemory, Point};
-use pf_mesh::{ApplyErr, Band, BuildErr, Cond, Entry, Mesh, Op, build};
-use std::alloc::{AllocError, Global};
+use pf_geom::NoMemory;
+use pf_mesh::{ApplyErr, Band, Cond, Entry, Mesh, Op};
+use small_meshes::mesh_at;
+use std::alloc::Global;
 use std::marker::Model;
 use std::process::Abort;
 use std::test::Fail;
 
-// The mesh of these points, before the first operation.
-fn opened(alloc: Global, points: &[Point], tris: &[[u32; 3]]) -> Result<Mesh, BuildErr>
-    requires few_points { length points.now ≤ 1000 }
-    requires few_tris { length tris.now ≤ 1000 }
-    requires in_range { All IsInRange points.now }
-    ensures listed { IfOk result (λ m. AreListed tris.now m.mesh.tris) }
-    ensures fresh { IfOk result (λ m. IsFresh m.mesh 0) }
-    ensures few { IfOk result (λ m. m.mesh.first_new ≤ 1000) }
-{
-    let mesh = build(alloc, points, tris)?;
-    Ok(mesh)
-}
-
-// Points with small coordinates.
-fn points_at(alloc: Global, places: &[(i16, i16)]) -> Result<Vec<Point>, AllocError>
-    ensures { IfOk result (λ points. All IsInRange points.items) }
-{
-    let mut points = Vec::new(alloc);
-    for (x, y) in places {
-        points.push(Point {
-            x: i32::from(*x),
-            y: i32::from(*y),
-        })?;
-    }
-    Ok(points)
-}
-
-// The mesh with points at these places, before the first operation.
-pub fn mesh_at<R: Abort + AllocGlobal>(
-    rt: &R,
-    places: &[(i16, i16)],
-    tris: &[[u32; 3]],
-) -> Result<Mesh, Fail>
-    ensures listed { IfOk result (λ m. AreListed tris.now m.mesh.tris) }
-    ensures fresh { IfOk result (λ m. IsFresh m.mesh 0) }
-    ensures few { IfOk result (λ m. m.mesh.first_new ≤ 1000) }
-{
-    let points = points_at(rt.alloc(), places)?;
-    assert!(rt; points.len() <= 100 && tris.len() <= 100);
-    let mesh = opened(rt.alloc(), &points, tris)?;
-    Ok(mesh)
-}
-
-// The same, to be edited.
+// The mesh with points at these places, to be edited.
 pub fn grown_at<R: Abort + AllocGlobal>(
     rt: &R,
     places: &[(i16, i16)],
     tris: &[[u32; 3]],
 ) -> Result<Grown, Fail> {
-    let mesh = mesh_at(rt, places, tris)?;
+    let mesh = mesh_at(rt.alloc(), places, tris)?;
     Ok(Grown::of(mesh))
 }
 
@@ -89,7 +46,7 @@ pub fn laid<R: Abort + AllocGlobal>(
 ) -> Result<Grown, Fail>
     requires owned { All (λ owner. owner < 2) owners }
 {
-    let mesh = mesh_at(rt, places, tris)?;
+    let mesh = mesh_at(rt.alloc(), places, tris)?;
     let owners = Vec::from_array(rt.alloc(), owners)?;
     let bands = Vec::from_array(rt.alloc(), [everywhere()])?;
     let mesh = mesh.with_tables(tris, owners, 2, bands)?;

@@ -3,11 +3,12 @@ ghost use Rattle.std.specs.Prelude.{◌≡◌, ◌∷◌, [], ◌<◌, All, IfOk
 ghost use Rattle.pf_model.specs.Conforming.{HasDefault};
 
 use super::dice::Dice;
-use super::grown::{Grown, mesh_at};
+use super::grown::Grown;
 use super::judges::{assert_by_ends, judged};
 use super::patches::{all_held, assert_patched, held_of};
 use pf_mesh::{Band, Op, Tri};
 use pf_star::StarSet;
+use small_meshes::mesh_at;
 use std::alloc::{AllocError, Global};
 use std::process::Abort;
 use std::test::Fail;
@@ -196,7 +197,7 @@ fn try_some(grown: &mut Grown, dice: &mut Dice) {
 fn random_mesh<R: Abort + AllocGlobal>(rt: &R, dice: &mut Dice) -> Result<Grown, Fail> {
     let places = moved_places(rt.alloc(), dice)?;
     let tris = cut_cells(rt.alloc(), dice)?;
-    let mesh = mesh_at(rt, &places, &tris)?;
+    let mesh = mesh_at(rt.alloc(), &places, &tris)?;
     let owners = owners_of(rt.alloc(), dice, tris.len())?;
     let bands = bands_of(rt.alloc(), dice)?;
     let mut grown = Grown::of(mesh.with_tables(&tris, owners, CHUNKS, bands)?);

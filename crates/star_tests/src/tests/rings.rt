@@ -1,7 +1,8 @@
 //! What a ring says of its star, worked out by hand.
-use super::grown::{laid, mesh_at};
+use super::grown::laid;
 use pf_mesh::Mesh;
 use pf_rings::{Ring, Star};
+use small_meshes::mesh_at;
 use std::alloc::Global;
 use std::process::Abort;
 use std::test::Fail;
@@ -69,11 +70,15 @@ fn rings_of_the_kite(rt: HostRuntime) -> Result<(), Fail> {
 #[test]
 fn rings_of_an_inner_and_of_a_pinched_node(rt: HostRuntime) -> Result<(), Fail> {
     let square = [(0, 0), (8, 0), (8, 8), (0, 8), (4, 4)];
-    let mesh = mesh_at(&rt, &square, &[[0, 1, 4], [1, 2, 4], [2, 3, 4], [3, 0, 4]])?;
+    let mesh = mesh_at(
+        rt.alloc(),
+        &square,
+        &[[0, 1, 4], [1, 2, 4], [2, 3, 4], [3, 0, 4]],
+    )?;
     let star = star_of(rt.alloc(), &mesh, 4)?;
     assert_shape(&rt, Ring::of(&star), false, true);
     let bow = [(0, 0), (4, 0), (4, 4), (-4, 0), (-4, -4)];
-    let mesh = mesh_at(&rt, &bow, &[[0, 1, 2], [0, 3, 4]])?;
+    let mesh = mesh_at(rt.alloc(), &bow, &[[0, 1, 2], [0, 3, 4]])?;
     let star = star_of(rt.alloc(), &mesh, 0)?;
     assert_shape(&rt, Ring::of(&star), true, false);
     Ok(())

@@ -2,7 +2,6 @@
 ghost use Rattle.std.specs.Prelude.{◌+◌, ◌≤◌, IfOk};
 ghost use Rattle.pf_model.specs.Applied.{IsFresh};
 
-use super::sums::points_at;
 use super::*;
 use pf_forms::{cover, euler};
 use std::process::Abort;
@@ -13,20 +12,6 @@ pub(super) fn cover_at<R: Abort + AllocGlobal>(rt: &R, m: &Mesh, x: i32, y: i32,
 {
     assert!(rt; m.tris().len() < 1_000_000);
     cover(m, i64::from(x), i64::from(y), u32::from(q))
-}
-
-// The mesh with these points and triangles, before the first operation.
-fn started<R: Abort + AllocGlobal>(
-    rt: &R,
-    places: &[(i16, i16)],
-    tris: &[[u32; 3]],
-) -> Result<Mesh, Fail>
-    ensures fresh { IfOk result (λ m. IsFresh m.mesh 0) }
-    ensures few { IfOk result (λ m. m.mesh.first_new ≤ 1000) }
-{
-    let points = points_at(rt.alloc(), places)?;
-    assert!(rt; points.len() < 100 && tris.len() < 100);
-    Ok(opened(rt.alloc(), &points, tris)?)
 }
 
 // The operation with this ticket passes.
@@ -61,8 +46,8 @@ fn assert_sums<R: Abort + AllocGlobal>(
 
 #[test]
 fn covers_the_square_once(rt: HostRuntime) -> Result<(), Fail> {
-    let mut mesh = started(
-        &rt,
+    let mut mesh = mesh_at(
+        rt.alloc(),
         &[(0, 0), (4, 0), (4, 4), (0, 4)],
         &[[0, 1, 2], [0, 2, 3]],
     )?;
@@ -85,8 +70,8 @@ fn covers_the_square_once(rt: HostRuntime) -> Result<(), Fail> {
 #[test]
 fn covers_an_overlap_twice(rt: HostRuntime) -> Result<(), Fail> {
     // A kite with a third triangle, which lies over it.
-    let mut mesh = started(
-        &rt,
+    let mut mesh = mesh_at(
+        rt.alloc(),
         &[(0, 0), (8, 0), (4, 2), (4, -2), (12, 0)],
         &[[0, 1, 2], [1, 0, 3], [2, 3, 4]],
     )?;
@@ -101,8 +86,8 @@ fn covers_an_overlap_twice(rt: HostRuntime) -> Result<(), Fail> {
 
 #[test]
 fn covers_the_kite_once(rt: HostRuntime) -> Result<(), Fail> {
-    let mut mesh = started(
-        &rt,
+    let mut mesh = mesh_at(
+        rt.alloc(),
         &[(0, 0), (8, 0), (4, 2), (4, -2)],
         &[[0, 1, 2], [1, 0, 3]],
     )?;
@@ -118,7 +103,7 @@ fn assert_kept<R: Abort + AllocGlobal>(
     tris: &[[u32; 3]],
     op: Op,
 ) -> Result<(), Fail> {
-    let mut mesh = started(rt, places, tris)?;
+    let mut mesh = mesh_at(rt.alloc(), places, tris)?;
     assert_sums(rt, &mesh, &[])?;
     pass(rt, &mut mesh, 0, op);
     assert_sums(rt, &mesh, &[])

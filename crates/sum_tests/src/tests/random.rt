@@ -5,7 +5,6 @@ ghost use Rattle.pf_geom.specs.Plane.{IsInRange};
 ghost use Rattle.pf_model.specs.Applied.{IsFresh};
 
 use super::cover::cover_at;
-use super::sums::points_at;
 use super::*;
 use pf_forms::euler;
 use std::alloc::AllocError;

@@ -1,36 +1,8 @@
 //! Areas, Euler numbers and boundaries of worked meshes.
-ghost use Rattle.std.specs.Prelude.{All, IfOk};
-ghost use Rattle.pf_geom.specs.Plane.{IsInRange};
-
 use super::*;
 use pf_forms::{area2, boundary, euler};
 use std::alloc::AllocError;
 use std::process::Abort;
-
-// Points with small coordinates.
-pub(super) fn points_at(alloc: Global, places: &[(i16, i16)]) -> Result<Vec<Point>, AllocError>
-    ensures { IfOk result (λ points. All IsInRange points.items) }
-{
-    let mut points = Vec::new(alloc);
-    for (x, y) in places {
-        points.push(Point {
-            x: i32::from(*x),
-            y: i32::from(*y),
-        })?;
-    }
-    Ok(points)
-}
-
-// The mesh with these points and triangles.
-fn made<R: Abort + AllocGlobal>(
-    rt: &R,
-    places: &[(i16, i16)],
-    tris: &[[u32; 3]],
-) -> Result<Mesh, Fail> {
-    let points = points_at(rt.alloc(), places)?;
-    assert!(rt; points.len() < 100 && tris.len() < 100);
-    Ok(build(rt.alloc(), &points, tris)?)
-}
 
 // The mesh with these points and triangles has this doubled area.
 fn assert_area2<R: Abort + AllocGlobal>(
@@ -39,7 +11,7 @@ fn assert_area2<R: Abort + AllocGlobal>(
     tris: &[[u32; 3]],
     doubled: i128,
 ) -> Result<(), Fail> {
-    let m = made(rt, places, tris)?;
+    let m = mesh_at(rt.alloc(), places, tris)?;
     assert_eq!(rt; area2(&m), doubled);
     Ok(())
 }
@@ -52,7 +24,7 @@ fn assert_edges<R: Abort + AllocGlobal>(
     number: i64,
     edges: &[(u32, u32)],
 ) -> Result<(), Fail> {
-    let m = made(rt, places, tris)?;
+    let m = mesh_at(rt.alloc(), places, tris)?;
     assert_eq!(rt; euler(rt.alloc(), &m)?, number);
     let found = boundary(rt.alloc(), &m)?;
     assert_eq!(rt; found.as_slice(), edges);

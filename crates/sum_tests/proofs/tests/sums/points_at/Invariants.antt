@@ -1,6 +1,0 @@
-use Rattle.std.specs.Prelude.{All}
-use Rattle.pf_geom.specs.Plane.{IsInRange}
-use Rattle.sum_tests.proofs.tests.sums.points_at.Given as goal
-
-abbrev pub invariant-loop-x : goal.invariant-loop-x
-invariant-loop-x l = All IsInRange l.points.items
