@@ -17,6 +17,6 @@ abbrev pub placed : List ℕ → EdgeHasher
 placed bytes = record { place = cond (nat_lt (length bytes) 8) 0 (word_of bytes) }
 
 -- the place of a directed edge: both directions lie side by side, and edges whose lower names are neighbours in neighbouring
--- groups, as long as their higher names have the same sixteenth; the upper eight bits tell the rest of the higher name and the direction
+-- groups, as long as their higher names are in the same run of 64; the upper eight bits tell the rest of the higher name and the direction
 abbrev pub place_of_edge : ℕ → ℕ → ℕ
-place_of_edge from to = (min from to + max from to / 16 * 42470972311 / 16 + max from to % 16 * 16777216 + cond (nat_lt from to) 1 0 * 2147483648) % 4294967296
+place_of_edge from to = (min from to + max from to / 64 * 1382478937 + max from to % 64 * 16777216 + cond (nat_lt from to) 1 0 * 2147483648) % 4294967296

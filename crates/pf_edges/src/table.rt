@@ -31,10 +31,10 @@ pub struct Edge {
 }
 
 // Where an edge belongs in the table's memory: both directions of an edge side by side, and edges whose lower
-// names are neighbours in neighbouring groups, as long as the higher ones have the same sixteenth. Those of the
-// next sixteenth begin 0.618 of the way round the groups from there, so that they spread evenly over them
-// (Fibonacci hashing, Knuth). The upper eight bits, which the table looks at before it compares names, tell the
-// rest of the higher name and the direction.
+// names are neighbours in neighbouring groups, as long as the higher ones are in the same run of 64 names. Those
+// of the next run begin a fixed way further round the groups. The number of that way was sought so that the runs
+// spread evenly over any number of groups. The upper eight bits, which the table looks at before it compares
+// names, tell the rest of the higher name and the direction.
 impl Hash for Edge {
     ghost hash_input = { λ e. fed.u64 (place_of_edge e.from e.to) };
 
@@ -45,8 +45,8 @@ impl Hash for Edge {
         let low = self.from.min(self.to) as u64;
         let high = self.from.max(self.to) as u64;
         let rising = if self.from < self.to { 1 } else { 0 };
-        let start = high / 16 * 42_470_972_311 / 16;
-        let place = low + start + high % 16 * 16_777_216 + rising * 2_147_483_648;
+        let start = high / 64 * 1_382_478_937;
+        let place = low + start + high % 64 * 16_777_216 + rising * 2_147_483_648;
         state.write_u64(place % 4_294_967_296);
     }
 }
