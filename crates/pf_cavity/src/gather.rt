@@ -7,7 +7,8 @@ ghost use Rattle.pf_star_model.specs.Cavity.{apexes, needed};
 ghost use Rattle.pf_rings.specs.Points.{left_side, right_side};
 
 use pf_model::{Op, Spoke};
-use pf_rings::{Rings, lesser_of, spoke_from, spoke_to};
+use pf_rings::{Rings, spoke_from, spoke_to};
+use pf_spokes::lesser_of;
 
 // The least name so far that isn't lent, with one name more.
 fn missing<R: Rings>(r: &R, least: Option<u32>, n: u32) -> Option<u32>

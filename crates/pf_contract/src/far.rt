@@ -4,12 +4,13 @@ ghost use Rattle.pf_geom.specs.Plane.{IsInRange};
 ghost use Rattle.pf_model.specs.Mesh.{Undivided};
 ghost use Rattle.pf_model.specs.Rows as rows;
 ghost use Rattle.pf_model.specs.Rows.{least_that, lesser, neighbours};
-ghost use Rattle.pf_rings.specs.Points.{HasSpots};
+ghost use Rattle.pf_spokes.specs.Spokes.{HasSpots};
 ghost use Rattle.pf_rules.specs.Lengths.{IsPlaced};
 ghost use Rattle.pf_rules.specs.Star.{IsSpokePlaced};
 
 use pf_model::{Band, Spoke};
-use pf_rings::{is_near, lesser_of};
+use pf_rings::is_near;
+use pf_spokes::lesser_of;
 use pf_rules::lengths::{Placed, is_long_between};
 
 // Whether the edge from `v`, with these spokes `around`, to `x` would be new, and is too long.

@@ -3,7 +3,8 @@ ghost use Rattle.std.specs.Prelude.{◌≡◌, ◌∷◌, [], filter, fold, map}
 ghost use Rattle.pf_model.specs.Rows.{is_link_node, least_that, lesser, neighbours};
 
 use pf_model::Spoke;
-use pf_rings::{is_near, lesser_of};
+use pf_rings::is_near;
+use pf_spokes::lesser_of;
 use pf_rules::edge_sides::EdgeSides;
 use pf_sight::is_apex;
 

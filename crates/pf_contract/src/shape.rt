@@ -6,7 +6,8 @@ ghost use Rattle.pf_model.specs.Mesh.{turn_at};
 ghost use Rattle.pf_star_model.specs.Lent.{sight_of};
 ghost use Rattle.pf_rules.specs.Contract.{IsShape};
 
-use pf_rings::{Star, first_right, last_left};
+use pf_rings::Star;
+use pf_spokes::{first_right, last_left};
 use pf_rules::contract::{StarShape, is_flat};
 use pf_sight::place_in;
 

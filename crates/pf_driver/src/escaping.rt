@@ -2,7 +2,7 @@
 //! goes, and then by the star of another end.
 ghost use Rattle.std.specs.Prelude.{◌≡◌, ℕ, ◌<◌, All, true, IfSome};
 ghost use Rattle.pf_geom.specs.Plane.{IsInRange};
-ghost use Rattle.pf_rings.specs.Points.{HasSpots};
+ghost use Rattle.pf_spokes.specs.Spokes.{HasSpots};
 ghost use Rattle.pf_driver.specs.Plans.{IsPlanBelow};
 
 use crate::planning::{Plan, is_mine, place_at, rest_planned, try_planned};

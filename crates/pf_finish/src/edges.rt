@@ -15,7 +15,7 @@ use crate::tries::{Answered, wish_tried};
 use pf_holder::{Hold, Holder};
 use pf_model::{Band, Op};
 use pf_rings::Star;
-use pf_rules::lengths::Span;
+use pf_rules::lengths::{Span, span_of};
 use pf_wishes::{longer_at, look, look_is_of_mesh, neighbours_have_edges, no_shorter_no_flip};
 use std::alloc::Global;
 
@@ -32,18 +32,6 @@ pub struct EdgeSeen {
     pub shorter_flip: bool,
     /// Where the walk goes on.
     pub longer: Option<Span>,
-}
-
-/// The edge between two names.
-pub fn span_of(a: u32, b: u32) -> Span
-    ensures value { span_value result ≡ edge_of a b }
-    ensures sorted { result.lo ≤ result.hi }
-{
-    if a <= b {
-        Span { lo: a, hi: b }
-    } else {
-        Span { lo: b, hi: a }
-    }
 }
 
 // What a star shows of the edge to `b`: `None` exactly where that is no neighbour.

@@ -3,13 +3,12 @@ ghost use Rattle.std.specs.Prelude.{◌≡◌, ◌<◌, ◌≤◌, [], None, IfS
 ghost use Rattle.pf_holder.specs.Facts.{LendsAll};
 ghost use Rattle.pf_finish.specs.Waiting.{waiting};
 
-use crate::edges::span_of;
 use pf_geom::NoMemory;
 use pf_holder::{Hold, Holder};
 use pf_model::{Band, Op};
 use pf_order::EdgeStack;
 use pf_rings::{Star, spoke_to};
-use pf_rules::lengths::Span;
+use pf_rules::lengths::{Span, span_of};
 use pf_wishes::{EdgeLook, look};
 use std::alloc::Global;
 

@@ -13,7 +13,8 @@ use Rattle.pf_model.proofs.RisingLemmas.{rising-nil, rising-same, rising-head, r
 use Rattle.pf_model.proofs.Totals.{different-append, map-means}
 use Rattle.pf_model.proofs.Fans.{IsSimple, left_after-some}
 use Rattle.pf_model.proofs.OneFan.{beside_next, beside_rights, beside_join, beside_last, beside_fan, cycle_closes, cycle_ends}
-use Rattle.pf_rules.specs.Star.{has_right, ArePart, IsChain, IsTurned}
+use Rattle.pf_rules.specs.Star.{ArePart, IsChain, IsTurned}
+use Rattle.pf_spokes.specs.Spokes.{has_right}
 use Rattle.pf_rules.proofs.StarLists.{eq_holds, apart, bool_cases, right-in, right-means, part-more, part-length, rising-one, spoke_order}
 
 some_length : (ss : List Spoke) (s : Spoke) → Contains ss s → 0 < length ss

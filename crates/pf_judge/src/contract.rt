@@ -12,7 +12,7 @@ ghost use Rattle.pf_edges.specs.Table.{AreInRange, Shows};
 ghost use Rattle.pf_rules.specs.EdgeSides.{AreEdgeSides};
 ghost use Rattle.pf_edges.specs.Kept.{IsKept};
 ghost use Rattle.pf_rules.specs.Change.{IsChange};
-ghost use Rattle.pf_rules.specs.Star.{HasSpots};
+ghost use Rattle.pf_spokes.specs.Spokes.{HasSpots};
 ghost use Rattle.pf_model.specs.declared.Spoke.{Spoke};
 ghost use Rattle.pf_model.specs.Limits.{most_spokes};
 ghost use Rattle.pf_rules.specs.Contract.{AreAround, AreClose, IsShape, is_link_at, star_clauses};
@@ -30,7 +30,7 @@ use pf_rules::edge_sides::EdgeSides;
 use pf_rules::lengths::Placed;
 use pf_rules::refusals::{contract_refusal, far_refusal};
 use pf_rules::scratch::{Names, Scratch, StarLists};
-use pf_rules::star::{first_right, last_left};
+use pf_spokes::{first_right, last_left};
 
 /// A node with more triangles isn't contracted.
 const MOST_SPOKES: u64 = pf_model::MOST_SPOKES as u64;

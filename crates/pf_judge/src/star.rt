@@ -6,7 +6,8 @@ ghost use Rattle.pf_model.specs.Stars.{spokes_of};
 ghost use Rattle.pf_model.specs.Limits.{most_spokes};
 ghost use Rattle.pf_edges.specs.Table.{AreInRange, Shows, side_at, triangles_at};
 ghost use Rattle.pf_rules.specs.EdgeSides.{AreEdgeSides};
-ghost use Rattle.pf_rules.specs.Star.{HasSpots, IsSpokeOn, IsSpokeBefore, IsChain, IsChainToLeft, IsTurned, IsFan};
+ghost use Rattle.pf_rules.specs.Star.{IsSpokeOn, IsSpokeBefore, IsChain, IsChainToLeft, IsTurned, IsFan};
+ghost use Rattle.pf_spokes.specs.Spokes.{HasSpots};
 
 use pf_edges::table::EdgeTable;
 use pf_model::{Side, Spoke};

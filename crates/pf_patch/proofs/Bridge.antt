@@ -13,7 +13,7 @@ use Rattle.pf_model.proofs.Members.{here, there, filter-out, insert_all_by-cases
 use Rattle.pf_model.proofs.Spokes.{filter_map-out}
 use Rattle.pf_star_model.specs.Patched.{star_after}
 use Rattle.pf_star_model.proofs.Corners.{spoke_among, spoke_of-tri_of}
-use Rattle.pf_rings.specs.Points.{HasSpots}
+use Rattle.pf_spokes.specs.Spokes.{HasSpots}
 use Rattle.pf_patch.specs.declared.tris.NewTri.{NewTri}
 use Rattle.pf_patch.specs.declared.tris.Gone.{Gone}
 use Rattle.pf_patch.specs.declared.tris.Gone.TheVariants.{AtEdge, AtNode}

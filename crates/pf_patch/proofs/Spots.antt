@@ -5,7 +5,7 @@ use Rattle.pf_model.specs.declared.Spoke.{Spoke}
 use Rattle.pf_model.proofs.Members.{nowhere, cases, filter-out}
 use Rattle.pf_model.proofs.Totals.{map-means}
 use Rattle.pf_star_model.specs.Lent.{has_name}
-use Rattle.pf_rings.specs.Points.{HasSpots}
+use Rattle.pf_spokes.specs.Spokes.{HasSpots}
 use Rattle.pf_patch.specs.declared.tris.Corner.{Corner}
 use Rattle.pf_patch.specs.declared.tris.NewTri.{NewTri}
 use Rattle.pf_patch.specs.Tris.{HasCorners, HasSpot}

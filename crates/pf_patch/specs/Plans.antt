@@ -10,7 +10,8 @@ use Rattle.pf_model.specs.declared.Op.TheVariants.{Flip, Bisect, Contract}
 use Rattle.pf_model.specs.Stars.{Star}
 use Rattle.pf_star_model.specs.Lent.{Held, has_name}
 use Rattle.pf_star_model.specs.Patched.{put_name}
-use Rattle.pf_rings.specs.Points.{HasSpots, first_to, first_from, left_side, right_side}
+use Rattle.pf_rings.specs.Points.{first_to, first_from, left_side, right_side}
+use Rattle.pf_spokes.specs.Spokes.{HasSpots}
 use Rattle.pf_patch.specs.declared.edge.Edge.{Edge}
 use Rattle.pf_patch.specs.declared.tris.Corner.{Corner}
 use Rattle.pf_patch.specs.declared.tris.NewTri.{NewTri}

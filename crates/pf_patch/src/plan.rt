@@ -4,7 +4,7 @@ ghost use Rattle.pf_geom.specs.Plane.{IsInRange};
 ghost use Rattle.pf_model.specs.declared.Op.TheVariants.{Flip, Bisect, Contract};
 ghost use Rattle.pf_model.specs.Stars as model;
 ghost use Rattle.pf_star_model.specs.Lent.{has_name};
-ghost use Rattle.pf_rings.specs.Points.{HasSpots};
+ghost use Rattle.pf_spokes.specs.Spokes.{HasSpots};
 ghost use Rattle.pf_patch.specs.Tris.{HasCorners, HasSpot};
 ghost use Rattle.pf_patch.specs.Plans as spec;
 ghost use Rattle.pf_patch.specs.Plans.{AreInRange, edge_by, cut_on, moved_of, turned_on, turned, moved, middle_or, end_at, halves, left_halves, right_halves};

@@ -1,6 +1,6 @@
 //! Triangles with their points, as spokes of their corners.
 ghost use Rattle.std.specs.Prelude.{◌≡◌, ◌==◌, ◌||◌, ◌&&◌, IfSome};
-ghost use Rattle.pf_rings.specs.Points.{HasSpots};
+ghost use Rattle.pf_spokes.specs.Spokes.{HasSpots};
 ghost use Rattle.pf_patch.specs.Tris as spec;
 ghost use Rattle.pf_patch.specs.Tris.{HasCorners, spoke_in, gone_from};
 

@@ -7,7 +7,8 @@ ghost use Rattle.pf_model.specs.Conforming.{IsConforming};
 ghost use Rattle.pf_model.specs.Stars.{is_one_fan, left_after, spoke_lt, spokes_of};
 ghost use Rattle.pf_rules.specs.Contract.{IsStar};
 ghost use Rattle.pf_edge_list.specs.Edges.{IsListed, IsSided};
-ghost use Rattle.pf_rules.specs.Star.{ArePart, HasSpots};
+ghost use Rattle.pf_rules.specs.Star.{ArePart};
+ghost use Rattle.pf_spokes.specs.Spokes.{HasSpots};
 ghost use Rattle.pf_edges.specs.Table.{AreInRange, Shows, Sides, side_at};
 
 use arrayvec::ArrayVec;
@@ -17,7 +18,8 @@ use pf_geom::NoMemory;
 use pf_judge::star::spoke_with;
 use pf_model::{Side, Spoke};
 use pf_rules::scratch::StarLists;
-use pf_rules::star::{Spokes, first_right};
+use pf_rules::star::Spokes;
+use pf_spokes::first_right;
 use std::alloc::Global;
 
 /// A node with more triangles isn't contracted.

@@ -13,7 +13,7 @@ ghost use Rattle.pf_edge_list.specs.declared.edges.Sided.{Sided};
 ghost use Rattle.pf_edge_list.specs.Edges.{sided_edge, AreEdges, IsSided, IsListed};
 ghost use Rattle.pf_rest.specs.Rest.{told_of, onto_hi, onto_lo, AreNotes};
 ghost use Rattle.pf_rules.specs.Lengths.{span_value};
-ghost use Rattle.pf_rules.specs.Star.{HasSpots};
+ghost use Rattle.pf_spokes.specs.Spokes.{HasSpots};
 ghost use Rattle.pf_edges.specs.Table.{AreInRange, Shows, Sides, side_at};
 
 use crate::around::{Around, gather_star};

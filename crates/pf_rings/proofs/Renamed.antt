@@ -5,7 +5,7 @@ use Rattle.std.proofs.lemmas.List.Elements.{Contains-get_or}
 use Rattle.pf_model.specs.declared.Spoke.{Spoke}
 use Rattle.pf_model.proofs.Totals.{map-means}
 use Rattle.pf_star_model.specs.Patched.{renamed_spoke}
-use Rattle.pf_rings.specs.Points.{HasSpots}
+use Rattle.pf_spokes.specs.Spokes.{HasSpots}
 
 pub all-member : {X : Type 0} (P : X → Type 0) (xs : List X) → All P xs → (x : X) → Contains xs x → P x
 all-member P xs a x h = subst P h.2 (a h.0 x h.1)

@@ -1,13 +1,7 @@
--- The points of held stars, and the two sides that a spoke shows.
+-- The two sides that a spoke shows, and the first spoke with a name.
 use Rattle.std.specs.Prelude.{ℕ, List, [], ◌∷◌, cond, ◌==◌, Option, Some, None}
-use Rattle.pf_geom.specs.Plane.{IsInRange}
 use Rattle.pf_model.specs.declared.Spoke.{Spoke}
 use Rattle.pf_model.specs.declared.Side.{Side}
-
--- the points of a spoke are in range
-pub record HasSpots (s : Spoke) : Type 0 where
-  pub right : IsInRange s.right_at
-  pub left : IsInRange s.left_at
 
 -- what stands left of the edge from the spokes' node to the spoke's right
 abbrev pub left_side : Spoke → Side

@@ -10,8 +10,8 @@ mod ring;
 mod spokes;
 mod star;
 
-pub use fan::{first_right, is_fan, last_left};
+pub use fan::is_fan;
 pub use rename::{rename_spokes, renamed_name};
 pub use ring::{Ring, Rings};
-pub use spokes::{has_owner, is_near, least_after, least_owner, lesser_of, spoke_from, spoke_to};
+pub use spokes::{has_owner, is_near, least_after, least_owner, spoke_from, spoke_to};
 pub use star::{NewStar, Star};

@@ -5,10 +5,11 @@ ghost use Rattle.pf_model.specs.Mesh.{Undivided};
 ghost use Rattle.pf_model.specs.Conforming.{IsConforming};
 ghost use Rattle.pf_model.specs.Stars.{star_of, is_on_boundary, is_one_fan, is_neighbour, is_sharer, keeper_in, left_after};
 ghost use Rattle.pf_star_model.specs.Rings.{right_before, next_neighbour};
-ghost use Rattle.pf_rings.specs.Points.{HasSpots};
+ghost use Rattle.pf_spokes.specs.Spokes.{HasSpots};
 ghost use Rattle.pf_rings.specs.Lending.{star_in};
 
-use crate::fan::{first_right, is_fan};
+use crate::fan::is_fan;
+use pf_spokes::first_right;
 use crate::spokes::{has_owner, is_near, least_after, least_owner, spoke_from, spoke_to};
 use crate::star::Star;
 use pf_geom::Point;

@@ -5,10 +5,12 @@ ghost use Rattle.pf_model.specs.Stars.{is_neighbour, is_sharer, keeper_in, left_
 ghost use Rattle.pf_model.specs.Conditions.{lesser, least_that};
 ghost use Rattle.pf_star_model.specs.Lent.{side_to, side_from};
 ghost use Rattle.pf_star_model.specs.Rings.{right_before, next_neighbour};
-ghost use Rattle.pf_rings.specs.Points.{HasSpots, first_from, first_to, left_side, right_side};
+ghost use Rattle.pf_rings.specs.Points.{first_from, first_to, left_side, right_side};
+ghost use Rattle.pf_spokes.specs.Spokes.{HasSpots};
 ghost use Rattle.pf_rings.specs.Least.{past, keeper_with};
 
 use pf_model::Spoke;
+use pf_spokes::lesser_of;
 
 /// The triangle left of the edge from the spokes' node to `n`: the first spoke with this right.
 pub fn spoke_to(spokes: &[Spoke], n: u32) -> Option<Spoke>
@@ -54,16 +56,6 @@ pub fn has_owner(spokes: &[Spoke], chunk: u16) -> bool
     ensures { result ≡ is_sharer chunk spokes.now }
 {
     spokes.iter().any(|s| s.owner == chunk)
-}
-
-/// The lesser of two names, where there is a first.
-pub fn lesser_of(least: Option<u32>, n: u32) -> Option<u32>
-    ensures { result ≡ lesser least n }
-{
-    match least {
-        Some(k) => Some(k.min(n)),
-        None => Some(n),
-    }
 }
 
 // Whether a name comes after this one, where there is one.

@@ -2,7 +2,7 @@
 ghost use Rattle.std.specs.Prelude.{◌≡◌, All, IfOk, Option, Some};
 ghost use Rattle.pf_geom.specs.Plane.{IsInRange};
 ghost use Rattle.pf_star_model.specs.Patched.{renamed_star};
-ghost use Rattle.pf_rings.specs.Points.{HasSpots};
+ghost use Rattle.pf_spokes.specs.Spokes.{HasSpots};
 
 use crate::rename::{rename_spokes, renamed_name};
 use pf_geom::{NoMemory, Point};
@@ -23,7 +23,7 @@ impl Model for Star {
     ghost use Rattle.std.specs.Prelude.{All};
     ghost use Rattle.pf_geom.specs.Plane.{IsInRange};
     ghost use Rattle.pf_model.specs.Stars as model;
-    ghost use Rattle.pf_rings.specs.Points.{HasSpots};
+    ghost use Rattle.pf_spokes.specs.Spokes.{HasSpots};
 
     ghost Value = { model.Star };
 

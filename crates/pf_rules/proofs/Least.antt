@@ -7,7 +7,7 @@ use Rattle.std.proofs.lemmas.List.Elements.{filter-append}
 use Rattle.pf_model.specs.declared.Spoke.{Spoke}
 use Rattle.pf_model.specs.Rows.{lesser, least_that, neighbours}
 use Rattle.pf_model.proofs.Members.{nowhere, here, there, cases}
-use Rattle.pf_rules.specs.Star.{has_right}
+use Rattle.pf_spokes.specs.Spokes.{has_right}
 use Rattle.pf_rules.specs.Contract.{names_of}
 
 lesser-swap : (o : Option ℕ) (a b : ℕ) → lesser (lesser o a) b ≡ lesser (lesser o b) a

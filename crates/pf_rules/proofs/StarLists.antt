@@ -8,7 +8,8 @@ use Rattle.pf_model.specs.Stars.{spoke_lt}
 use Rattle.pf_model.proofs.Members.{nowhere, here, there, cases, insert_by-old, insert_by-cases}
 use Rattle.pf_model.proofs.RisingLemmas.{IsStrictOrder, rising-head, rising-tail, rising-insert_by}
 use Rattle.pf_model.proofs.Kept.{any-from, any-means}
-use Rattle.pf_rules.specs.Star.{has_right, ArePart}
+use Rattle.pf_rules.specs.Star.{ArePart}
+use Rattle.pf_spokes.specs.Spokes.{has_right}
 
 -- a spoke is put before the first that it is below
 pub insert-place : (s : Spoke) (ss : List Spoke) (r : ℕ) → r ≤ length ss → ((k : ℕ) (d : Spoke) → k < r → spoke_lt s (get_or ss k d) ≡ false) → (r ≡ length ss) ⊎ ((d : Spoke) → spoke_lt s (get_or ss r d) ≡ true) → insert ss r s ≡ insert_by spoke_lt s ss

@@ -18,7 +18,7 @@ use Rattle.pf_model.proofs.Kept.{side_of-stands}
 use Rattle.pf_model.proofs.FlipKeeps.{corners_of}
 use Rattle.pf_model.proofs.Spokes.{filter_map-out, spokes-means, spokes-has, different-raw, rising-different}
 use Rattle.pf_model.specs.Exchange.{number_at}
-use Rattle.pf_rules.specs.Star.{has_right}
+use Rattle.pf_spokes.specs.Spokes.{has_right}
 use Rattle.pf_rules.proofs.StarLists.{apart, right-means, rising-new}
 
 least_first : (m : Undivided) → IsConforming m → (t : Tri) → Contains m.tris t → IsLeastFirst t

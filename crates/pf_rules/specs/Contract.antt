@@ -11,7 +11,7 @@ use Rattle.pf_model.specs.declared.Cond.TheVariants.{Corner, OffBoundary, LinkNo
 use Rattle.pf_model.specs.Clauses.{when, when_some}
 use Rattle.pf_model.specs.Rows.{neighbours, least_that, is_corner, is_off_boundary, is_link_node, inverted, star_rows}
 use Rattle.pf_rules.specs.declared.contract.StarShape.{StarShape}
-use Rattle.pf_rules.specs.Star.{has_right}
+use Rattle.pf_spokes.specs.Spokes.{has_right}
 
 -- the rights of the spokes, and the lefts that are no rights
 abbrev pub names_of : List Spoke → List ℕ

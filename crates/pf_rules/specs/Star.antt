@@ -1,21 +1,11 @@
 -- The star of a node as it is found by turning round the node, spoke by spoke.
-use Rattle.std.specs.Prelude.{◌≡◌, ℕ, ◌<◌, ◌==◌, Bool, true, List, Contains, length, Option, Some, None}
-use Rattle.std.specs.List.{list_any}
-use Rattle.pf_geom.specs.Plane.{IsInRange}
+use Rattle.std.specs.Prelude.{◌≡◌, ℕ, ◌<◌, Bool, true, List, Contains, length, Option, Some, None}
 use Rattle.pf_model.specs.declared.Spoke.{Spoke}
 use Rattle.pf_model.specs.Rising.{IsRising}
 use Rattle.pf_model.specs.Mesh.{Undivided, place_of}
 use Rattle.pf_model.specs.Fans.{AreBeside, IsOrderOf}
 use Rattle.pf_model.specs.Stars.{spoke_lt, is_one_fan}
-
--- a spoke has this right
-abbrev pub has_right : ℕ → List Spoke → Bool
-has_right n ss = list_any (λ s. s.right == n) ss
-
--- the points of a spoke are in range
-pub record HasSpots (s : Spoke) : Type 0 where
-  pub right : IsInRange s.right_at
-  pub left : IsInRange s.left_at
+use Rattle.pf_spokes.specs.Spokes.{has_right}
 
 -- the points of a spoke are where its nodes stand
 pub record IsSpokePlaced (m : Undivided) (s : Spoke) : Type 0 where

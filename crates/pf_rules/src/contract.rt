@@ -5,7 +5,8 @@ ghost use Rattle.pf_geom.specs.Plane.{IsInRange, orient_of};
 ghost use Rattle.pf_model.specs.Mesh.{Undivided, place_of, side_of};
 ghost use Rattle.pf_model.specs.Rows.{is_apex, is_positive, neighbours, lesser, least_that, inverted, is_off_boundary};
 ghost use Rattle.pf_rules.specs.EdgeSides.{AreEdgeSides};
-ghost use Rattle.pf_rules.specs.Star.{HasSpots, IsSpokePlaced};
+ghost use Rattle.pf_rules.specs.Star.{IsSpokePlaced};
+ghost use Rattle.pf_spokes.specs.Spokes.{HasSpots};
 ghost use Rattle.pf_model.specs.declared.Spoke.{Spoke};
 ghost use Rattle.pf_model.specs.declared.Tri.{Tri};
 ghost use Rattle.pf_model.specs.Limits.{most_spokes};
@@ -15,7 +16,7 @@ use crate::change::{Tris, least_first};
 use crate::conditions::is_counterclockwise;
 use crate::edge_sides::EdgeSides;
 use crate::scratch::Names;
-use crate::star::is_right;
+use pf_spokes::is_right;
 use pf_geom::{Point, orient};
 use pf_model::{Cond, Side, Spoke};
 
@@ -115,16 +116,6 @@ pub fn names_around(star: &[Spoke], names: &mut Names)
         if !is_right(star, s.left) {
             names.push(s.left);
         }
-    }
-}
-
-/// The lesser of two names, where there is a first.
-pub fn lesser_of(least: Option<u32>, n: u32) -> Option<u32>
-    ensures { result ≡ lesser least n }
-{
-    match least {
-        Some(k) => Some(k.min(n)),
-        None => Some(n),
     }
 }
 

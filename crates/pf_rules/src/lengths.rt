@@ -1,5 +1,5 @@
 //! The band of an edge, and the order of edges by length.
-ghost use Rattle.std.specs.Prelude.{◌≡◌, ℕ, pos, ◌+ℤ◌, ◌*ℤ◌, ◌&&◌, ◌||◌, ◌==◌, nat_lt, int_lt, int_le, find};
+ghost use Rattle.std.specs.Prelude.{◌≡◌, ◌≤◌, ℕ, pos, ◌+ℤ◌, ◌*ℤ◌, ◌&&◌, ◌||◌, ◌==◌, nat_lt, int_lt, int_le, find};
 ghost use Rattle.std.specs.Ordering.{int_eq};
 ghost use Rattle.pf_geom.specs.Plane.{IsInRange, len2_of};
 ghost use Rattle.pf_model.specs.Mesh.{Undivided, place_of};
@@ -32,11 +32,13 @@ struct Measured {
 
 /// The edge between two names.
 pub fn span_of(a: u32, b: u32) -> Span
-    ensures { span_value result ≡ edge_of a b }
+    ensures value { span_value result ≡ edge_of a b }
+    ensures sorted { result.lo ≤ result.hi }
 {
-    Span {
-        lo: a.min(b),
-        hi: a.max(b),
+    if a <= b {
+        Span { lo: a, hi: b }
+    } else {
+        Span { lo: b, hi: a }
     }
 }
 

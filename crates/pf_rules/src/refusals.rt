@@ -9,7 +9,8 @@ ghost use Rattle.pf_model.specs.Mesh.{Undivided, place_of};
 ghost use Rattle.pf_model.specs.Rows.{apex_or, edge_rows, flip_rows, there_row, not_longest, bisect_rows, is_link_node, least_that, neighbours};
 ghost use Rattle.pf_rules.specs.Contract.{IsShape, shape_rows, far_row};
 ghost use Rattle.pf_rules.specs.Lengths.{IsPlaced};
-ghost use Rattle.pf_rules.specs.Star.{HasSpots, IsSpokePlaced};
+ghost use Rattle.pf_rules.specs.Star.{IsSpokePlaced};
+ghost use Rattle.pf_spokes.specs.Spokes.{HasSpots};
 
 use crate::bisect::is_too_short;
 use crate::conditions::{is_counterclockwise, is_owned_by, is_shorter};

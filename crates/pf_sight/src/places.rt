@@ -5,7 +5,7 @@ ghost use Rattle.pf_model.specs.declared.Band.{Band};
 ghost use Rattle.pf_model.specs.Mesh.{place_of, point_of};
 ghost use Rattle.pf_model.specs.Rows.{apex_or};
 ghost use Rattle.pf_star_model.specs.Lent.{sight_of, sites_in, spoke_sites};
-ghost use Rattle.pf_rings.specs.Points.{HasSpots};
+ghost use Rattle.pf_spokes.specs.Spokes.{HasSpots};
 ghost use Rattle.pf_rules.specs.Lengths.{IsPlaced};
 
 use pf_geom::Point;

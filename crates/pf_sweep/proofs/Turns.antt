@@ -22,7 +22,7 @@ use Rattle.pf_model.proofs.Sorted.{different-at, rising-steps}
 use Rattle.pf_model.proofs.Triangles.{IsLeastFirst}
 use Rattle.pf_model.proofs.EdgeSum.{AreSound, directed_edges_of-different}
 use Rattle.pf_model.proofs.Exchange.{bool_cases}
-use Rattle.pf_rings.specs.Points.{HasSpots}
+use Rattle.pf_spokes.specs.Spokes.{HasSpots}
 use Rattle.pf_sweep.proofs.PointsByName.{point-in_range}
 use Rattle.pf_sweep.specs.declared.corners.Corner.{Corner}
 use Rattle.pf_sweep.specs.Sweep.{turns_of, corners_of, corner_at, spoke_by, IsNotAfter, AreInOrder}

@@ -4,7 +4,7 @@ ghost use Rattle.std.specs.List.Sorted.{IsPermutation};
 ghost use Rattle.pf_geom.specs.Plane.{IsInRange};
 ghost use Rattle.pf_model.specs.Mesh.{point_of};
 ghost use Rattle.pf_model.specs.Stars.{star_of};
-ghost use Rattle.pf_rings.specs.Points.{HasSpots};
+ghost use Rattle.pf_spokes.specs.Spokes.{HasSpots};
 ghost use Rattle.pf_sweep.specs.Lists.{AreLists, mesh_by};
 ghost use Rattle.pf_sweep.specs.Sweep as spec;
 ghost use Rattle.pf_sweep.specs.Sweep.{AreByRight, spoke_by};

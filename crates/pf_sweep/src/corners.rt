@@ -2,7 +2,7 @@
 ghost use Rattle.std.specs.Prelude.{◌≡◌, ◌∷◌, [], ◌++◌, ◌≤◌, All, IfOk, OnOk, take, drop, length};
 ghost use Rattle.std.specs.List.Sorted.{IsPermutation};
 ghost use Rattle.pf_geom.specs.Plane.{IsInRange};
-ghost use Rattle.pf_rings.specs.Points.{HasSpots};
+ghost use Rattle.pf_spokes.specs.Spokes.{HasSpots};
 ghost use Rattle.pf_sweep.specs.Sweep as spec;
 ghost use Rattle.pf_sweep.specs.Sweep.{AreInOrder, front_at, rest_from, spoke_by, turns_of};
 

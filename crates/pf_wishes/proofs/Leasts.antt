@@ -5,7 +5,7 @@ use Rattle.std.proofs.lemmas.List.Sums.{fold-append}
 use Rattle.std.proofs.lemmas.List.Elements.{filter-append}
 use Rattle.pf_model.specs.declared.Spoke.{Spoke}
 use Rattle.pf_model.specs.Rows.{lesser, least_that, neighbours}
-use Rattle.pf_rules.specs.Star.{has_right}
+use Rattle.pf_spokes.specs.Spokes.{has_right}
 use Rattle.pf_rules.proofs.Least.{least-of_names}
 
 pub least-by_parts : (p : ℕ → Bool) (ss : List Spoke) → fold lesser (least_that p (map (λ s. s.right) ss)) (filter p (map (λ s. s.left) (filter (λ s. not (has_right s.left ss)) ss))) ≡ least_that p (neighbours ss)

@@ -5,7 +5,8 @@ ghost use Rattle.pf_geom.specs.Plane.{IsInRange};
 ghost use Rattle.pf_model.specs.Stars.{is_neighbour};
 ghost use Rattle.pf_model.specs.Wishes.{owner_of};
 ghost use Rattle.pf_star_model.specs.Lent.{side_to, side_from};
-ghost use Rattle.pf_rings.specs.Points.{HasSpots, first_from, first_to, left_side, right_side};
+ghost use Rattle.pf_rings.specs.Points.{first_from, first_to, left_side, right_side};
+ghost use Rattle.pf_spokes.specs.Spokes.{HasSpots};
 ghost use Rattle.pf_wishes.specs.Looks.{acting_shown, is_across_below, place_by};
 
 use pf_geom::{Point, len2};

@@ -1,7 +1,8 @@
 //! What a star shows of an edge.
 ghost use Rattle.std.specs.Prelude.{◌≡◌, IfSome, is_none, not};
 ghost use Rattle.pf_model.specs.Stars.{is_neighbour};
-ghost use Rattle.pf_rings.specs.Points.{HasSpots, first_from, first_to};
+ghost use Rattle.pf_rings.specs.Points.{first_from, first_to};
+ghost use Rattle.pf_spokes.specs.Spokes.{HasSpots};
 ghost use Rattle.pf_wishes.specs.Looks.{IsLook, band_shown, length_shown};
 
 use crate::beside::{Beside, acting_of, is_across_below, is_edge, place_of, spokes_at};

@@ -2,8 +2,9 @@
 ghost use Rattle.std.specs.Prelude.{◌≡◌, ◌==◌, ◌&&◌, ◌||◌, ◌∷◌, [], IfSome, cond, filter, fold, map, min, max, not, Option, Some, None};
 ghost use Rattle.std.specs.List.{list_any};
 ghost use Rattle.pf_model.specs.Rows.{lesser, least_that, neighbours};
-ghost use Rattle.pf_rules.specs.Star.{has_right};
-ghost use Rattle.pf_rings.specs.Points.{HasSpots, first_from, first_to};
+ghost use Rattle.pf_spokes.specs.Spokes.{has_right};
+ghost use Rattle.pf_rings.specs.Points.{first_from, first_to};
+ghost use Rattle.pf_spokes.specs.Spokes.{HasSpots};
 ghost use Rattle.pf_wishes.specs.Looks.{acting_shown, is_long_shown, is_short_shown};
 ghost use Rattle.pf_wishes.specs.First.{is_wish, wish_at, first_wish_of};
 

@@ -1,4 +1,4 @@
-use Rattle.pf_rings.specs.Points.{HasSpots}
+use Rattle.pf_spokes.specs.Spokes.{HasSpots}
 use Rattle.pf_driver.proofs.escaping.walk_planned.Given as goal
 
 abbrev pub invariant-steps : goal.invariant-steps

@@ -6,8 +6,8 @@ use Rattle.pf_edge_list.proofs.edges.sided_by.Goals as goal
 pub returns-clause-listed : goal.returns-clause-listed
 returns-clause-listed c = λ table found.
     let span = c.span_of.result in
-    let low : span.lo ≡ min c.args.p c.args.q = ap (λ e. e.lo) c.span_of.ensures in
-    let high : span.hi ≡ max c.args.p c.args.q = ap (λ e. e.hi) c.span_of.ensures in
+    let low : span.lo ≡ min c.args.p c.args.q = ap (λ e. e.lo) c.span_of.ensures.value in
+    let high : span.hi ≡ max c.args.p c.args.q = ap (λ e. e.hi) c.span_of.ensures.value in
     let sides = c.rising.ensures.sides (side_at table) found in
     record {
       sided = record {

@@ -4,7 +4,8 @@ use Rattle.pf_model.specs.Mesh.{Undivided}
 use Rattle.pf_model.specs.Conforming.{IsConforming}
 use Rattle.pf_model.specs.Stars.{spokes_of}
 use Rattle.pf_edges.specs.Table.{AreInRange, Shows}
-use Rattle.pf_rules.specs.Star.{HasSpots, IsChain}
+use Rattle.pf_rules.specs.Star.{IsChain}
+use Rattle.pf_spokes.specs.Spokes.{HasSpots}
 use Rattle.pf_judge.proofs.star.turn_left.Given as goal
 
 abbrev pub decreases-turns : goal.decreases-turns

@@ -2,7 +2,7 @@ use Rattle.std.proofs.Common.{List, [], sym, subst}
 use Rattle.std.specs.Prelude.{All}
 use Rattle.pf_model.specs.declared.Spoke.{Spoke}
 use Rattle.pf_model.proofs.Members.{nowhere}
-use Rattle.pf_rings.specs.Points.{HasSpots}
+use Rattle.pf_spokes.specs.Spokes.{HasSpots}
 use Rattle.pf_patch.specs.declared.tris.NewTri.{NewTri}
 use Rattle.pf_patch.specs.Tris.{HasCorners}
 use Rattle.pf_patch.proofs.Bridge.{all-from, spots-after}

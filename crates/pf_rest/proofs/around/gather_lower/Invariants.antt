@@ -3,7 +3,8 @@ use Rattle.pf_model.specs.Mesh.{Undivided}
 use Rattle.pf_model.specs.Conforming.{IsConforming}
 use Rattle.pf_model.specs.Stars.{spokes_of}
 use Rattle.pf_edges.specs.Table.{AreInRange, Shows}
-use Rattle.pf_rules.specs.Star.{HasSpots, ArePart}
+use Rattle.pf_rules.specs.Star.{ArePart}
+use Rattle.pf_spokes.specs.Spokes.{HasSpots}
 use Rattle.pf_rest.proofs.around.gather_lower.Given as goal
 
 abbrev pub invariant-chain : goal.invariant-chain

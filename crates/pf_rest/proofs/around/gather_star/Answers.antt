@@ -2,7 +2,8 @@ use Rattle.std.proofs.Common.{◌≡◌, ◌∙◌, arith, length, subst, sym}
 use Rattle.std.specs.Prelude.{All}
 use Rattle.std.proofs.lemmas.List.Elements.{All-nil}
 use Rattle.pf_model.specs.Stars.{spokes_of}
-use Rattle.pf_rules.specs.Star.{ArePart, HasSpots}
+use Rattle.pf_rules.specs.Star.{ArePart}
+use Rattle.pf_spokes.specs.Spokes.{HasSpots}
 use Rattle.pf_judge.proofs.StarFan.{counted}
 use Rattle.pf_rest.proofs.StarAround.{part-nil, part-all}
 use Rattle.pf_rest.proofs.around.gather_star.Goals as goal

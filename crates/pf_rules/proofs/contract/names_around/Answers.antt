@@ -2,7 +2,7 @@ use Rattle.std.proofs.Common.{◌∙◌, ◌++◌, List, ap, map, filter, not}
 use Rattle.std.proofs.lemmas.List.{take_all}
 use Rattle.pf_model.specs.declared.Spoke.{Spoke}
 use Rattle.pf_model.specs.Rows.{least_that}
-use Rattle.pf_rules.specs.Star.{has_right}
+use Rattle.pf_spokes.specs.Spokes.{has_right}
 use Rattle.pf_rules.proofs.Least.{least-of_names}
 use Rattle.pf_rules.proofs.contract.names_around.Goals as goal
 

@@ -1,5 +1,5 @@
 use Rattle.std.proofs.Common.{◌≡◌, ◌≤◌, ◌+◌, ◌++◌, map, take, filter, length, not}
-use Rattle.pf_rules.specs.Star.{has_right}
+use Rattle.pf_spokes.specs.Spokes.{has_right}
 use Rattle.pf_rules.proofs.contract.names_around.Given as goal
 
 abbrev pub invariant-loop-s : goal.invariant-loop-s

@@ -2,7 +2,7 @@ use Rattle.std.proofs.Common.{◌≡◌, ◌∙◌, sym, subst}
 use Rattle.std.specs.Prelude.{All, insert}
 use Rattle.pf_model.specs.Rising.{insert_by}
 use Rattle.pf_model.specs.Stars.{spoke_lt}
-use Rattle.pf_rules.specs.Star.{HasSpots}
+use Rattle.pf_spokes.specs.Spokes.{HasSpots}
 use Rattle.pf_rules.proofs.StarSpots.{all-insert}
 use Rattle.pf_rules.proofs.star.put_spoke.Goals as goal
 

@@ -3,7 +3,7 @@ use Rattle.std.specs.Ordering.{is_lt, nat_cmp}
 use Rattle.std.proofs.lemmas.Bool.Decides.{nat_tests}
 use Rattle.std.proofs.lemmas.List.Sorted.{answers_always, All-permutation}
 use Rattle.pf_model.specs.declared.Spoke.{Spoke}
-use Rattle.pf_rings.specs.Points.{HasSpots}
+use Rattle.pf_spokes.specs.Spokes.{HasSpots}
 use Rattle.pf_sweep.proofs.alone.sort_spokes.Goals as goal
 
 not_less : (a b : ℕ) → is_lt (nat_cmp b a) ≡ false → a ≤ b

@@ -1,7 +1,7 @@
 use Rattle.std.proofs.Common.{◌≡◌, drop}
 use Rattle.std.specs.Prelude.{filter, fold, map, not}
 use Rattle.pf_model.specs.Rows.{lesser}
-use Rattle.pf_rules.specs.Star.{has_right}
+use Rattle.pf_spokes.specs.Spokes.{has_right}
 use Rattle.pf_wishes.specs.First.{is_wish}
 use Rattle.pf_wishes.proofs.wishes.least_left.Given as goal
 

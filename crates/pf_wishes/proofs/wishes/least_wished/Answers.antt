@@ -1,7 +1,7 @@
 use Rattle.std.proofs.Common.{◌∙◌, ℕ, Bool, filter, map, not}
 use Rattle.std.specs.Prelude.{fold}
 use Rattle.pf_model.specs.Rows.{lesser, least_that}
-use Rattle.pf_rules.specs.Star.{has_right}
+use Rattle.pf_spokes.specs.Spokes.{has_right}
 use Rattle.pf_wishes.specs.First.{is_wish}
 use Rattle.pf_wishes.proofs.Leasts.{least-by_parts}
 use Rattle.pf_wishes.proofs.wishes.least_wished.Goals as goal

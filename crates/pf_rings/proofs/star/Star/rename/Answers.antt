@@ -2,7 +2,7 @@ use Rattle.std.proofs.Common.{List, sym, subst}
 use Rattle.std.specs.Prelude.{All}
 use Rattle.std.proofs.lemmas.List.Elements.{All-take, All-append, All-drop}
 use Rattle.pf_model.specs.declared.Spoke.{Spoke}
-use Rattle.pf_rings.specs.Points.{HasSpots}
+use Rattle.pf_spokes.specs.Spokes.{HasSpots}
 use Rattle.pf_rings.proofs.Renamed.{spots-renamed}
 use Rattle.pf_rings.proofs.star.Star.rename.Goals as goal
 
