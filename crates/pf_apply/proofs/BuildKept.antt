@@ -23,7 +23,7 @@ use Rattle.pf_edges.specs.declared.table.Node.{Node}
 use Rattle.pf_model.specs.Exchange.{tally, AreOnce}
 use Rattle.pf_edges.specs.Table.{Sides, place_at, ShowsTriangles}
 use Rattle.pf_edges.specs.Kept.{IsKept, mesh_of}
-use Rattle.pf_apply.specs.BuildSteps.{earlier_from, live_sites, ArePart}
+use Rattle.pf_apply.specs.BuildSteps.{earlier_from, live_sites, AreAccepted}
 use Rattle.pf_model.proofs.Exchange.{side_of-absent, tally-insert, length-tally}
 use Rattle.pf_apply.proofs.SitesListed.{sites-listed}
 use Rattle.pf_apply.proofs.MeshLemmas.{shows-from}
@@ -54,7 +54,7 @@ earlier-has points acc (t ∷ ts) x (inl h) = earlier-has points (turned_left po
 earlier-has points acc (t ∷ ts) x (inr h) = elim (cases x (turned_left points t) (map (turned_left points) ts) h) [ inl e ↦ earlier-has points (turned_left points t ∷ acc) ts x (inl (subst (λ w. Contains (w ∷ acc) x) e (here x acc))) | inr k ↦ earlier-has points (turned_left points t ∷ acc) ts x (inr k) ]
 
 -- the listed triangles are a part as those that were entered
-pub part-listed : (points : List Point) (ts : List (List ℕ)) → ArePart points (earlier_from points [] ts) → ArePart points (map (turned_left points) ts)
+pub part-listed : (points : List Point) (ts : List (List ℕ)) → AreAccepted points (earlier_from points [] ts) → AreAccepted points (map (turned_left points) ts)
 part-listed points ts p =
     record {
       corners = λ t h. p.corners t (has t h);
@@ -88,7 +88,7 @@ sorted-forth xs t h = insert_all_by-new tri_lt t xs [] h
 sorted-back : (xs : List Tri) (t : Tri) → Contains (sorted_by tri_lt xs) t → Contains xs t
 sorted-back xs t h = elim (insert_all_by-cases tri_lt t xs [] h) [ inl a ↦ a | inr b ↦ absurd (nowhere t b) ]
 
-pub shows-sorted : (sides : Sides) (nodes : List Node) (points : List Point) (ts : List (List ℕ)) → ArePart points (earlier_from points [] ts) → ShowsTriangles sides nodes (earlier_from points [] ts) → ShowsTriangles sides nodes (sorted_by tri_lt (map (turned_left points) ts))
+pub shows-sorted : (sides : Sides) (nodes : List Node) (points : List Point) (ts : List (List ℕ)) → AreAccepted points (earlier_from points [] ts) → ShowsTriangles sides nodes (earlier_from points [] ts) → ShowsTriangles sides nodes (sorted_by tri_lt (map (turned_left points) ts))
 shows-sorted sides nodes points ts p s =
     let listed = part-listed points ts p in
     record {
@@ -109,7 +109,7 @@ point_at-in_range points n all = elim (cases_of n (length points)) [ inl l ↦ A
     cases_of : (a b : ℕ) → (a < b) ⊎ (b ≤ a)
     cases_of a b = grind arith
 
-pub built-kept : (sides : Sides) (nodes : List Node) (points : List Point) (ts : List (List ℕ)) → All IsInRange points → ArePart points (earlier_from points [] ts) → ShowsTriangles sides nodes (earlier_from points [] ts) → ((n : ℕ) → place_at nodes n ≡ point_at points n) → IsKept sides nodes (mesh_with points (map (turned_left points) ts))
+pub built-kept : (sides : Sides) (nodes : List Node) (points : List Point) (ts : List (List ℕ)) → All IsInRange points → AreAccepted points (earlier_from points [] ts) → ShowsTriangles sides nodes (earlier_from points [] ts) → ((n : ℕ) → place_at nodes n ≡ point_at points n) → IsKept sides nodes (mesh_with points (map (turned_left points) ts))
 built-kept sides nodes points ts all p s places =
     let listed = part-listed points ts p in
     let ok = built-conforms points (map (turned_left points) ts) all listed in

@@ -18,7 +18,7 @@ use Rattle.pf_model.proofs.Triangles.{has_edge-means, side_of-none, tri_of-least
 use Rattle.pf_model.proofs.ReadClauses.{first_of-none, when-none}
 use Rattle.pf_model.proofs.Turns.{distinct_from_turn, turn_at-tri_of}
 use Rattle.pf_model.specs.Exchange.{IsTurned, SharesNoEdge}
-use Rattle.pf_apply.specs.BuildSteps.{points_mesh, ArePart}
+use Rattle.pf_apply.specs.BuildSteps.{points_mesh, AreAccepted}
 use Rattle.pf_edges.proofs.TableSteps.{edge_one}
 
 apart : (b : Bool) → b ≡ true → b ≡ false → ⊥
@@ -152,12 +152,12 @@ shares_none t earlier e1 e2 e3 s p q h k = go (has_edge-means p q t k).is
     go (inr (inr x)) = subst (λ w. has_edge w q s ≡ false) x.0 (subst (λ w. has_edge t.c w s ≡ false) x.1 (side_of-none earlier t.c t.a e3 s h))
 
 pub record IsAccepted (points : List Point) (earlier : List Tri) (t : Tri) : Type 0 where
-  pub part : ArePart points (t ∷ earlier)
+  pub part : AreAccepted points (t ∷ earlier)
   pub apart_from : SharesNoEdge t earlier
   pub turned : IsTurned t
   pub corners : (t.a < length points) × (t.b < length points) × (t.c < length points)
 
-part-cons : (points : List Point) (earlier : List Tri) (t : Tri) → ArePart points earlier → IsLeft points t → SharesNoEdge t earlier → ArePart points (t ∷ earlier)
+part-cons : (points : List Point) (earlier : List Tri) (t : Tri) → AreAccepted points earlier → IsLeft points t → SharesNoEdge t earlier → AreAccepted points (t ∷ earlier)
 part-cons points earlier t part l bare =
     record {
       corners = λ s h. elim (cases s t earlier h) [ inl e ↦ subst (λ w. (w.a < length points) × (w.b < length points) × (w.c < length points)) (sym e) (left-corners points t l) | inr k ↦ part.corners s k ];
@@ -179,7 +179,7 @@ part-cons points earlier t part l bare =
         go (inr a) (inl b) = absurd (apart _ er (bare r p q a (subst (λ w. has_edge p q w ≡ true) b es)))
         go (inr a) (inr b) = part.sound.edges_once r s p q a b er es
 
-pub accepted : (points : List Point) (earlier : List Tri) (k a b c : ℕ) → ArePart points earlier → first_of (build_clauses points earlier k (a ∷ b ∷ c ∷ [])) ≡ None → IsAccepted points earlier (turned_left points (a ∷ b ∷ c ∷ []))
+pub accepted : (points : List Point) (earlier : List Tri) (k a b c : ℕ) → AreAccepted points earlier → first_of (build_clauses points earlier k (a ∷ b ∷ c ∷ [])) ≡ None → IsAccepted points earlier (turned_left points (a ∷ b ∷ c ∷ []))
 accepted points earlier k a b c part h =
     let t = turned_left points (a ∷ b ∷ c ∷ []) in
     let one = first_of-none (when_some (find (λ n. not (nat_lt n (length points))) (a ∷ b ∷ c ∷ [])) (λ n. BadNode k n)) _ h in
@@ -192,7 +192,7 @@ accepted points earlier k a b c part h =
     let bare = shares_none t earlier (is_some-none _ none.0) (is_some-none _ none.1) (is_some-none _ none.2) in
     record { part = part-cons points earlier t part l bare; apart_from = bare; turned = left-turned points t l; corners = left-corners points t l }
 
-pub part-none : (points : List Point) → ArePart points []
+pub part-none : (points : List Point) → AreAccepted points []
 part-none points =
     record {
       corners = λ t h. absurd (nowhere t h);

@@ -13,7 +13,7 @@ use Rattle.pf_model.specs.Build.{turned_left, build_clauses, first_fault}
 use Rattle.pf_edges.specs.declared.table.Node.{Node}
 use Rattle.pf_model.specs.Exchange.{SharesNoEdge}
 use Rattle.pf_edges.specs.Table.{Sides, ShowsTriangles}
-use Rattle.pf_apply.specs.BuildSteps.{earlier_from, ArePart}
+use Rattle.pf_apply.specs.BuildSteps.{earlier_from, AreAccepted}
 use Rattle.pf_model.proofs.Exchange.{side_of-insert, tally-insert, length-tally}
 use Rattle.pf_apply.proofs.BuildLaw.{IsAccepted, accepted}
 
@@ -67,7 +67,7 @@ fault-on points ts k l h =
     (λ i. first_fault points (earlier-more points ts k l i) (n i) (drop (k + 1) ts))
     ∙ sym (fault-at points (earlier_from points [] (take k ts)) k ts l ∙ first_of-past (build_clauses points (earlier_from points [] (take k ts)) k (get_or ts k [])) _ h)
 
-pub accepted-at : (points : List Point) (earlier : List Tri) (k : ℕ) (t : List ℕ) → length t ≡ 3 → ArePart points earlier → first_of (build_clauses points earlier k t) ≡ None → IsAccepted points earlier (turned_left points t)
+pub accepted-at : (points : List Point) (earlier : List Tri) (k : ℕ) (t : List ℕ) → length t ≡ 3 → AreAccepted points earlier → first_of (build_clauses points earlier k t) ≡ None → IsAccepted points earlier (turned_left points t)
 accepted-at points earlier k t three part h =
     let e = three_of t three in
     let P : List ℕ → Type 0 = λ l. first_of (build_clauses points earlier k l) ≡ None in

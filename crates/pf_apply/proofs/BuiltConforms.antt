@@ -20,7 +20,7 @@ use Rattle.pf_model.proofs.Kept.{any-from, any-means, has_edge-first}
 use Rattle.pf_model.specs.Exchange.{AreOnce, AreSound}
 use Rattle.pf_model.proofs.Exchange.{bool_cases}
 use Rattle.pf_apply.proofs.BuildLaw.{live-points}
-use Rattle.pf_apply.specs.BuildSteps.{ArePart, points_mesh}
+use Rattle.pf_apply.specs.BuildSteps.{AreAccepted, points_mesh}
 
 apart : (b : Bool) → b ≡ true → b ≡ false → ⊥
 apart b e f = let k : true ≡ false = sym e ∙ f in absurd (cc)
@@ -94,7 +94,7 @@ holds_all p r = all_four _ _ _ _ (low p.x r.x) (high p.x r.x) (low p.y r.y) (hig
     all_four true true false d ea eb ec ed = absurd (apart false ec refl)
     all_four true true true false ea eb ec ed = absurd (apart false ed refl)
 
-module _ (points : List Point) (ts : List Tri) (all : All IsInRange points) (part : ArePart points ts) where
+module _ (points : List Point) (ts : List Tri) (all : All IsInRange points) (part : AreAccepted points ts) where
   abbrev uses : ℕ → Bool
   uses n = list_any (has_corner n) ts
 

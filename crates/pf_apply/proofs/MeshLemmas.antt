@@ -15,7 +15,7 @@ use Rattle.pf_model.proofs.Kept.{any-means}
 use Rattle.pf_model.proofs.Triangles.{has_corner-means}
 use Rattle.pf_edges.specs.declared.table.Node.{Node}
 use Rattle.pf_edges.specs.Kept.{IsKept}
-use Rattle.pf_edges.specs.Table.{Sides, edge_eq, no_node, place_at, triangles_at, site_at, AreInRange, IsWithin, ShowsTriangles, Shows}
+use Rattle.pf_edges.specs.Table.{Sides, edge_eq, no_node, place_at, triangles_at, site_at, ArePlacesInRange, HasNamedCorners, ShowsTriangles, Shows}
 use Rattle.pf_model.specs.Exchange.{number_at}
 
 apart : (b : Bool) → b ≡ true → b ≡ false → ⊥
@@ -42,7 +42,7 @@ pub live-within : (sides : Sides) (nodes : List Node) (m : Undivided) → Shows 
 live-within sides nodes m s n live = let p = is_some-holds (point_of m.sites n) live in live_at nodes n (some-site nodes n p.0 (s.sites n ∙ p.1)).0
 
 -- triangles of a conforming mesh whose live names are within
-pub all-within : (nodes : List Node) (m : Undivided) → IsConforming m → ((n : ℕ) → IsLive m n → n < length nodes) → (ts : List Tri) → ((t : Tri) → Contains ts t → Contains m.tris t) → All (IsWithin nodes) ts
+pub all-within : (nodes : List Node) (m : Undivided) → IsConforming m → ((n : ℕ) → IsLive m n → n < length nodes) → (ts : List Tri) → ((t : Tri) → Contains ts t → Contains m.tris t) → All (HasNamedCorners nodes) ts
 all-within nodes m ok within ts stand k d l =
     let p = ok.proper (get_or ts k d) (stand (get_or ts k d) (Contains-get_or ts k d l)) in
     record { first = within _ p.first; second = within _ p.second; third = within _ p.third }
@@ -105,5 +105,5 @@ kept-unchanged sides new nodes after m u e k =
     record {
       conforming = k.conforming;
       shows = record { triangles = shows-unchanged sides new nodes after m.tris u e k.shows.triangles; sites = λ n. ap (λ ns. site_at ns n) e ∙ k.shows.sites n };
-      in_range = subst (λ ns. AreInRange ns) (sym e) k.in_range;
+      in_range = subst (λ ns. ArePlacesInRange ns) (sym e) k.in_range;
     }

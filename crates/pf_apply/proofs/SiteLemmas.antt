@@ -5,7 +5,7 @@ use Rattle.std.proofs.lemmas.Bool.Decides.{nat_tests}
 use Rattle.std.proofs.lemmas.List.{get_or_default}
 use Rattle.pf_model.specs.declared.Site.{Site}
 use Rattle.pf_model.proofs.Members.{here, there}
-use Rattle.pf_apply.specs.Sites.{IsPlace}
+use Rattle.pf_apply.specs.Sites.{IsIndexOfSite}
 
 -- the sites rise by name
 abbrev pub AreNamed : List Site → Type 0
@@ -53,14 +53,14 @@ without-none n (s ∷ ss) h =
     ∙ ap (λ l. s ∷ l) (without-none n ss (λ r k. h r (there r s ss k)))
 
 -- past the last site
-pub without-past : (n : ℕ) (ss : List Site) (r : ℕ) → IsPlace n ss r → length ss ≤ r → ss ≡ filter (λ s. not (s.name == n)) ss
+pub without-past : (n : ℕ) (ss : List Site) (r : ℕ) → IsIndexOfSite n ss r → length ss ≤ r → ss ≡ filter (λ s. not (s.name == n)) ss
 without-past n ss r p past = sym (without-none n ss (λ s h. apart s h))
   where
     apart : (s : Site) → Contains ss s → s.name ≢ n
     apart s h = let l : h.0 < r = (let x = h.1 in omega (arith, past, x)) in let b = p.before h.0 s l in let e : (get_or ss h.0 s).name ≡ s.name = ap (λ x. x.name) h.2 in omega (arith, b, e)
 
 -- another name stands there
-pub without-other : (n : ℕ) (ss : List Site) (r : ℕ) (d : Site) → AreNamed ss → IsPlace n ss r → r < length ss → (get_or ss r d).name ≢ n → ss ≡ filter (λ s. not (s.name == n)) ss
+pub without-other : (n : ℕ) (ss : List Site) (r : ℕ) (d : Site) → AreNamed ss → IsIndexOfSite n ss r → r < length ss → (get_or ss r d).name ≢ n → ss ≡ filter (λ s. not (s.name == n)) ss
 without-other n ss r d up p l other = sym (without-none n ss (λ s h. go s h (three h.0 r)))
   where
     three : (a b : ℕ) → (a < b) ⊎ ((a ≡ b) ⊎ (b < a))

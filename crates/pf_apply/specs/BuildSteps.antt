@@ -36,7 +36,7 @@ abbrev pub points_mesh : List Point → Undivided
 points_mesh points = record { first_new = 0; sites = sites_from 0 points; tris = []; bands = []; chunks = 0 }
 
 -- triangles that were accepted
-pub record ArePart (points : List Point) (ts : List Tri) : Type 0 where
+pub record AreAccepted (points : List Point) (ts : List Tri) : Type 0 where
   pub corners : (t : Tri) → Contains ts t → (t.a < length points) × (t.b < length points) × (t.c < length points)
   pub positive : (t : Tri) → Contains ts t → pos 0 <ℤ turn_at (points_mesh points) t.a t.b t.c
   pub owned : (t : Tri) → Contains ts t → t.owner ≡ 0

@@ -6,7 +6,7 @@ use Rattle.pf_model.specs.declared.Op.{Op}
 use Rattle.pf_model.specs.declared.Op.TheVariants.{Flip, Bisect, Contract}
 
 -- so many sites have a name below n, and they stand first
-pub record IsPlace (n : ℕ) (ss : List Site) (r : ℕ) : Type 0 where
+pub record IsIndexOfSite (n : ℕ) (ss : List Site) (r : ℕ) : Type 0 where
   pub within : r ≤ length ss
   pub before : (k : ℕ) (d : Site) → k < r → (slice_index_or ss k d).name < n
   pub from : (k : ℕ) (d : Site) → r ≤ k → k < length ss → n ≤ (slice_index_or ss k d).name

@@ -9,7 +9,7 @@ ghost use Rattle.pf_model.specs.Rising.{sorted_by};
 ghost use Rattle.pf_model.specs.Exchange.{AreSound};
 ghost use Rattle.pf_model.specs.Build.{turned_left, build_clauses, first_fault, default_band};
 ghost use Rattle.pf_model.specs.Limits.{most_triangles};
-ghost use Rattle.pf_apply.specs.BuildSteps.{twice_of, earlier_from, live_sites, AreEntered, ArePart};
+ghost use Rattle.pf_apply.specs.BuildSteps.{twice_of, earlier_from, live_sites, AreEntered, AreAccepted};
 ghost use Rattle.pf_edges.specs.Table.{IsEmptyTable, ShowsTriangles, HasSamePlaces};
 
 use pf_edges::table::{EdgeTable, Node};
@@ -101,7 +101,7 @@ pub fn enter_triangles(
     requires capacity { length tris.now ≤ vec_capacity listed.old }
     ensures ok { OnOk result (first_fault points.now [] 0 tris.now ≡ None) }
     ensures entered { OnOk result (AreEntered table.new.sides table.new.nodes.items points.now listed.new.items tris.now) }
-    ensures part { OnOk result (ArePart points.now (earlier_from points.now [] tris.now)) }
+    ensures part { OnOk result (AreAccepted points.now (earlier_from points.now [] tris.now)) }
     ensures places { HasSamePlaces table.old.nodes.items table.new.nodes.items }
     ensures err { IfErr result (λ e. first_fault points.now [] 0 tris.now ≡ Some e) }
 {

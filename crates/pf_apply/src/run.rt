@@ -5,7 +5,7 @@ ghost use Rattle.pf_model.specs.Mesh.{Undivided};
 ghost use Rattle.pf_model.specs.Applied.{applied};
 ghost use Rattle.pf_model.specs.Replay.{HasTickets, first_refusal, refusal_of, replayed};
 ghost use Rattle.pf_model.specs.Limits.{most_names, most_spokes};
-ghost use Rattle.pf_edges.specs.Table.{AreInRange, ShowsTriangles};
+ghost use Rattle.pf_edges.specs.Table.{ArePlacesInRange, ShowsTriangles};
 ghost use Rattle.pf_edges.specs.Kept.{IsKept};
 ghost use Rattle.pf_rules.specs.Change.{IsChange};
 ghost use Rattle.pf_apply.specs.Run.{IsSaid, IsStopped, IsReached, HasReached, error_of};
@@ -58,7 +58,7 @@ fn entry_refusal(
     entry: &Entry,
     scratch: &mut Scratch,
 ) -> Option<Refusal>
-    requires { AreInRange table.now.nodes.items }
+    requires { ArePlacesInRange table.now.nodes.items }
     ensures refusal { (m : Undivided) → IsKept table.now.sides table.now.nodes.items m → m.bands ≡ bands.now → result ≡ refusal_of m entry.now }
     ensures change { (m : Undivided) → IsKept table.now.sides table.now.nodes.items m → result ≡ None
         → IsChange m n entry.now.op scratch.new.change.removed.items scratch.new.change.new.items }

@@ -1,6 +1,6 @@
 //! The list of live nodes by rising name, kept up to date by each operation.
 ghost use Rattle.std.specs.Prelude.{◌≡◌, ◌+◌, ◌<◌, ◌≤◌, ◌==◌, AllPairs, not, filter, vec_len, vec_capacity};
-ghost use Rattle.pf_apply.specs.Sites.{IsPlace, sites_after};
+ghost use Rattle.pf_apply.specs.Sites.{IsIndexOfSite, sites_after};
 
 use pf_geom::Point;
 use pf_model::{Op, Site};
@@ -8,7 +8,7 @@ use pf_model::{Op, Site};
 // How many sites have a name below this one.
 fn place(sites: &[Site], n: u32) -> usize
     requires { AllPairs (λ r s. r.name < s.name) sites.now }
-    ensures { IsPlace n sites.now result }
+    ensures { IsIndexOfSite n sites.now result }
 {
     let mut low = 0;
     let mut high = sites.len();

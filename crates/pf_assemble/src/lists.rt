@@ -5,7 +5,7 @@ ghost use Rattle.pf_assemble.specs.Placed.{is_sharer_at, AreRowsOf};
 ghost use Rattle.pf_assemble.specs.Rows.{AreMarked, AreTaken};
 
 use crate::ghosts::{ghost_rows, owned_rows};
-use crate::rows::{mark, rows_of, turned};
+use crate::rows::{mark, rows_of, transposed};
 use pf_geom::NoMemory;
 use pf_model::{Spoke, Tri};
 use pf_rings::Star;
@@ -59,7 +59,7 @@ pub(crate) fn lists_of(
 {
     let owned = owned_rows(alloc, tris, chunks)?;
     let nodes = node_rows(alloc, stars, chunks)?;
-    let owners = turned(alloc, &nodes, stars.len())?;
+    let owners = transposed(alloc, &nodes, stars.len())?;
     let ghosts = ghost_rows(alloc, tris, &owned)?;
     Ok(Lists {
         owned,

@@ -87,7 +87,7 @@ pub(crate) fn mark_others(
 }
 
 /// The rows the other way round: for each of so many numbers the rows that have it, rising.
-pub(crate) fn turned(
+pub(crate) fn transposed(
     alloc: Global,
     rows: &[Vec<usize>],
     count: usize,

@@ -20,7 +20,7 @@ use Rattle.pf_core_model.specs.declared.view.View.{View}
 use Rattle.pf_core_model.specs.Lists.{In}
 use Rattle.pf_core_model.specs.Needs.{Passes}
 use Rattle.pf_core_model.specs.Core.{Opening, nodes_of}
-use Rattle.pf_core_model.specs.Guards.{IsMeshOf, IsJudged, HoldsCavity, IsPatch}
+use Rattle.pf_core_model.specs.Guards.{IsMeshOf, IsJudged, HoldsCavity, IsViewPatch}
 use Rattle.pf_core_model.specs.State.{is_apex_held, can_judge, can_make, fresh_pairs}
 use Rattle.pf_core_model.proofs.Replays.{and_left, and_right}
 use Rattle.pf_core_model.proofs.Born.{contains_in}
@@ -74,7 +74,7 @@ module _ (v : View) (e : Entry) (can : CanMake v e.chunk e.op) (m : Undivided) (
   made_on : (t : ℕ) → IsFresh m t → Made m is.conforming v.held is.pairs m.first_new (at_ticket e t)
   made_on t fresh = made_is_of m is.conforming v.held is.pairs (opened m) (at_ticket e t) refl refl (λ passes. record { conforming = is.conforming; fresh = fresh; passes = passes }) makes_on
 
-pub made_patch : (v : View) (e : Entry) → CanMake v e.chunk e.op → IsJudged v e.chunk e.op None × HoldsCavity v e.chunk e.op × ((t : ℕ) → IsPatch v (at_ticket e t) (fresh_at v e t))
+pub made_patch : (v : View) (e : Entry) → CanMake v e.chunk e.op → IsJudged v e.chunk e.op None × HoldsCavity v e.chunk e.op × ((t : ℕ) → IsViewPatch v (at_ticket e t) (fresh_at v e t))
 made_patch v e can = (
   (λ m is. passes_on v e can m is),
   (λ m is. cavity_on v e can m is),

@@ -16,7 +16,7 @@ use Rattle.pf_core_model.specs.Lists.{In}
 use Rattle.pf_core_model.specs.Sharers.{sharers_in}
 use Rattle.pf_core_model.specs.Moves.{spares_in, left_of, right_of, both_of, spent_view}
 use Rattle.pf_core_model.specs.Core.{Opening, names_of, mesh_after, held_by, number_of, nodes_of}
-use Rattle.pf_core_model.specs.Guards.{IsAlone, IsJudged, HoldsCavity, IsPatch}
+use Rattle.pf_core_model.specs.Guards.{IsAlone, IsJudged, HoldsCavity, IsViewPatch}
 use Rattle.pf_core_model.specs.Seats.{own_log, IsWhole}
 use Rattle.pf_core_model.specs.State.{opening_state, first_view}
 use Rattle.pf_core_model.specs.Shown.{CanOpen}
@@ -44,7 +44,7 @@ RefusalIsStep = OverSeat (λ o slots id me. (chunk : ℕ) (op : Op) (why : Cond)
 -- fresh pairs are what it makes of those held, whatever ticket is drawn
 abbrev pub CommitIsStep : Type 0
 CommitIsStep = OverSeat (λ o slots id me. (e : Entry) (fresh : ℕ → List Held) → me.0.numbers ≢ [] → me.0.unborn ≡ None → 0 < me.0.allowance
-    → IsJudged me.0 e.chunk e.op None → HoldsCavity me.0 e.chunk e.op → ((t : ℕ) → IsPatch me.0 (at_ticket e t) (fresh t))
+    → IsJudged me.0 e.chunk e.op None → HoldsCavity me.0 e.chunk e.op → ((t : ℕ) → IsViewPatch me.0 (at_ticket e t) (fresh t))
     → Allows (Holds o) slots id me (names_of o) (λ x. (x + 1) % 2 ^ 64) (Commits o e fresh (step slots (names_of o) 1 0 none) me))
 
 -- a birth: the word of the unborn node becomes the seat's
@@ -90,4 +90,4 @@ SeenIsJudged = (v : View) (chunk : ℕ) (op : Op) (x : Option Cond) → IsSeen v
 
 -- what can be made from the held stars can be committed
 abbrev pub MadeIsPatch : Type 0
-MadeIsPatch = (v : View) (e : Entry) → CanMake v e.chunk e.op → IsJudged v e.chunk e.op None × HoldsCavity v e.chunk e.op × ((t : ℕ) → IsPatch v (at_ticket e t) (fresh_at v e t))
+MadeIsPatch = (v : View) (e : Entry) → CanMake v e.chunk e.op → IsJudged v e.chunk e.op None × HoldsCavity v e.chunk e.op × ((t : ℕ) → IsViewPatch v (at_ticket e t) (fresh_at v e t))

@@ -24,7 +24,7 @@ use Rattle.pf_say.specs.declared.stop.Stop.TheVariants.{Operation}
 use Rattle.pf_say.specs.Place.{Stems, name_of}
 use Rattle.pf_cmd.specs.declared.words.Task.{Task}
 use Rattle.pf_cmd.specs.declared.words.Task.TheVariants as act
-use Rattle.pf_cmd.specs.Input.{Held, ◌>>=◌, Numbered, Parted, numbered_in, entries_in, parted_in, said_in, within_limit}
+use Rattle.pf_cmd.specs.Input.{Held, ◌>>=◌, Numbered, Partitioned, numbered_in, entries_in, partitioned_in, said_in, within_limit}
 use Rattle.pf_cmd.specs.Output.{NamedText, Given, written_to}
 
 -- a command: what is to be done, with which stems, and what coordinates are multiplied by
@@ -119,7 +119,7 @@ budgeted_in ops scale files = do
 -- what a chunk list is of: a mesh with its chunks
 unfoldable pub divided_in : ℕ → Held → Result Undivided Stop
 divided_in scale files = do
-  parted ← parted_in scale files
+  parted ← partitioned_in scale files
   Ok (with_tables_of parted.listed.triangles parted.parts.owners parted.parts.chunks parted.listed.mesh.bands parted.listed.mesh)
 
 -- what a trace works on: a mesh, and what the trace says
@@ -140,7 +140,7 @@ pub data Input : Type 0 where
   -- a mesh and the journal that is replayed on it
   to_replay : Journalled → Input
   -- a mesh and its chunks
-  to_check : Parted → Input
+  to_check : Partitioned → Input
   -- a mesh whose chunks are listed
   to_divide : Undivided → Input
   -- a mesh and the trace that is run on it
@@ -157,7 +157,7 @@ task_input act.Replay scale files = do
   input ← journalled_in scale files
   Ok (to_replay input)
 task_input act.Check scale files = do
-  parted ← parted_in scale files
+  parted ← partitioned_in scale files
   Ok (to_check parted)
 task_input act.Chunks scale files = do
   mesh ← divided_in scale files
@@ -187,7 +187,7 @@ abbrev pub replay_given : Stems → Journalled → Given
 replay_given stems input = replay_texts stems input.base (replayed input.mesh input.entries) (length input.entries)
 
 -- what a check gives
-abbrev pub check_given : Parted → Given
+abbrev pub check_given : Partitioned → Given
 check_given parted = record { writes = []; report = check_report parted.parts.chunks parted.listed.mesh }
 
 -- the report of an adaptation of so many operations, on the mesh after it

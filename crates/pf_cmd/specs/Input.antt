@@ -122,12 +122,12 @@ bands_in files = do
   table_accepted Size (size_of bytes)
 
 -- a mesh as it is listed, and the chunks of its triangles
-pub record Parted : Type 0 where
+pub record Partitioned : Type 0 where
   pub listed : Listed
   pub parts : PartTable
 
-unfoldable pub parted_in : ℕ → Held → Result Parted Stop
-parted_in scale files = do
+unfoldable pub partitioned_in : ℕ → Held → Result Partitioned Stop
+partitioned_in scale files = do
   listed ← mesh_in scale files
   parts ← parts_in (length listed.triangles) files
   Ok record { listed = listed; parts = parts }
@@ -139,7 +139,7 @@ pub record Numbered : Type 0 where
 
 unfoldable pub numbered_in : ℕ → Held → Result Numbered Stop
 numbered_in scale files = do
-  parted ← parted_in scale files
+  parted ← partitioned_in scale files
   bands ← bands_in files
   Ok record { base = parted.listed.base; mesh = with_tables_of parted.listed.triangles parted.parts.owners parted.parts.chunks bands parted.listed.mesh }
 

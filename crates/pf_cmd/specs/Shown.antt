@@ -5,11 +5,11 @@ use Rattle.pf_model.specs.Wishes.{rest_of}
 use Rattle.pf_adapt.specs.Adapted.{IsAdapted}
 use Rattle.pf_say.specs.Shown.{stems_of}
 use Rattle.pf_cmd.specs.declared.words.Command.{Command as CodedCommand}
-use Rattle.pf_cmd.specs.declared.input.Parted.{Parted as CodedParted}
+use Rattle.pf_cmd.specs.declared.input.Partitioned.{Partitioned as CodedParted}
 use Rattle.pf_cmd.specs.declared.input.Budgeted.{Budgeted as CodedBudgeted}
 use Rattle.pf_cmd.specs.declared.adapt.Refined.{Refined as CodedRefined}
 use Rattle.pf_cmd.specs.declared.replay.Replayed.{Replayed as CodedReplayed}
-use Rattle.pf_cmd.specs.Input.{Held, Parted}
+use Rattle.pf_cmd.specs.Input.{Held, Partitioned}
 use Rattle.pf_cmd.specs.Commands.{Command, Budgeted, budgeted_in, Journalled, journalled_in, Traced, traced_in}
 use Rattle.trace_text.specs.Verdicts.{answer_text}
 
@@ -18,7 +18,7 @@ abbrev pub shown : CodedCommand → Command
 shown command = record { task = command.task; stems = stems_of command.stems; scale = command.scale }
 
 -- a mesh as it is listed with its chunks, as what it says
-abbrev pub parted_of : CodedParted → Parted
+abbrev pub parted_of : CodedParted → Partitioned
 parted_of read = record { listed = record { base = read.listed.base; mesh = read.listed.mesh.mesh; triangles = read.listed.triangles.items }; parts = read.parts }
 
 -- a mesh with the operations that may be made of it, as what it says

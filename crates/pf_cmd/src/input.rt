@@ -5,7 +5,7 @@ ghost use Rattle.pf_say.specs.Shown.{stems_of};
 ghost use Rattle.pf_cmd.specs.Causes.{IsOnlyRead, IsQuiet, Explains};
 ghost use Rattle.pf_cmd.specs.Shown.{parted_of, budgeted_of};
 ghost use Rattle.pf_cmd.specs.Commands.{budget_of, budgeted_in, divided_in};
-ghost use Rattle.pf_cmd.specs.Input.{files_in, bytes_in, vertices_in, triangles_in, mesh_in, parts_in, bands_in, parted_in, numbered_in, entries_in};
+ghost use Rattle.pf_cmd.specs.Input.{files_in, bytes_in, vertices_in, triangles_in, mesh_in, parts_in, bands_in, partitioned_in, numbered_in, entries_in};
 ghost use Rattle.pf_geom.specs.Plane.{IsInRange};
 ghost use Rattle.pf_model.specs.Conforming.{IsLive, HasDefault};
 ghost use Rattle.pf_model.specs.Tables.{AreListed};
@@ -193,35 +193,35 @@ fn read_bands<S: Shelf>(alloc: Global, shelf: &mut S, stems: Stems<'_>) -> Resul
 
 /// A mesh as it is listed, and the chunks of its triangles.
 #[derive(Drop)]
-pub(crate) struct Parted {
+pub(crate) struct Partitioned {
     pub(crate) listed: Listed,
     pub(crate) parts: Parts,
 }
 
 /// The mesh of the files of nodes and triangles, and the partition.
-pub(crate) fn read_parted<S: Shelf>(
+pub(crate) fn read_partitioned<S: Shelf>(
     alloc: Global,
     shelf: &mut S,
     stems: Stems<'_>,
     scale: u32,
-) -> Result<Parted, Stop>
+) -> Result<Partitioned, Stop>
     requires scale_low { 1 ≤ scale }
     requires scale_high { scale ≤ 1048576 }
     ensures parted { Tells (S.seen shelf.old).told → IfOk result (λ read.
-        parted_in scale (files_in (S.seen shelf.old) (stems_of stems.entry)) ≡ Ok (parted_of read)) }
+        partitioned_in scale (files_in (S.seen shelf.old) (stems_of stems.entry)) ≡ Ok (parted_of read)) }
     ensures base { IfOk result (λ read. read.listed.base ≤ 1) }
     ensures fresh { IfOk result (λ read. (n : ℕ) → IsLive read.listed.mesh.mesh n → n < read.listed.mesh.mesh.first_new) }
     ensures listed { IfOk result (λ read. AreListed read.listed.triangles.items read.listed.mesh.mesh.tris) }
     ensures each_triangle { IfOk result (λ read. length read.parts.owners ≡ length read.listed.triangles.items) }
     ensures owned { IfOk result (λ read. All (λ owner. owner < read.parts.chunks) read.parts.owners) }
     ensures stop { IfErr result (Explains (Place.Node ∷ Place.Ele ∷ Place.Part ∷ []) (S.seen shelf.old) (S.seen shelf.new)
-        (stems_of stems.entry) (parted_in scale)) }
+        (stems_of stems.entry) (partitioned_in scale)) }
     ensures quiet { IfOk result (λ _. IsQuiet (S.seen shelf.old) (S.seen shelf.new)) }
     ensures only_read { IsOnlyRead (S.seen shelf.old) (S.seen shelf.new) }
 {
     let listed = read_mesh(alloc, shelf, stems, scale)?;
     let parts = read_parts(alloc, shelf, stems, listed.triangles.len() as u32)?;
-    Ok(Parted { listed, parts })
+    Ok(Partitioned { listed, parts })
 }
 
 /// A mesh with its chunks and wanted lengths, and the number of the first node in its files.
@@ -249,7 +249,7 @@ pub(crate) fn read_numbered<S: Shelf>(
     ensures quiet { IfOk result (λ _. IsQuiet (S.seen shelf.old) (S.seen shelf.new)) }
     ensures only_read { IsOnlyRead (S.seen shelf.old) (S.seen shelf.new) }
 {
-    let Parted { listed, parts } = read_parted(alloc, shelf, stems, scale)?;
+    let Partitioned { listed, parts } = read_partitioned(alloc, shelf, stems, scale)?;
     let bands = read_bands(alloc, shelf, stems)?;
     let Parts { owners, chunks } = parts;
     let mesh = listed
@@ -335,7 +335,7 @@ pub(crate) fn read_divided<S: Shelf>(
     ensures quiet { IfOk result (λ _. IsQuiet (S.seen shelf.old) (S.seen shelf.new)) }
     ensures only_read { IsOnlyRead (S.seen shelf.old) (S.seen shelf.new) }
 {
-    let Parted { listed, parts } = read_parted(alloc, shelf, stems, scale)?;
+    let Partitioned { listed, parts } = read_partitioned(alloc, shelf, stems, scale)?;
     let bands = Vec::from_slice(alloc, listed.mesh.bands())?;
     let Parts { owners, chunks } = parts;
     let mesh = listed

@@ -11,7 +11,7 @@ use crate::adapt::{Work, adapt_output, refine};
 use crate::check::check_text;
 use crate::chunks::chunks_answer;
 use crate::demo::demo_text;
-use crate::input::{Parted, read_parted};
+use crate::input::{Partitioned, read_partitioned};
 use crate::output::write_files;
 use crate::replay::{replay, replay_output};
 use crate::trace::trace_answer;
@@ -139,7 +139,7 @@ fn perform_check<S: Shelf>(
         (S.seen shelf.old) (S.seen shelf.new)) }
     ensures others { (name : List ℕ) → held (S.seen shelf.new).told name ≡ held (S.seen shelf.old).told name }
 {
-    let Parted { listed, parts } = read_parted(alloc, shelf, stems, scale)?;
+    let Partitioned { listed, parts } = read_partitioned(alloc, shelf, stems, scale)?;
     let Parts { chunks, .. } = parts;
     let report = check_text(alloc, &listed.mesh, chunks)?;
     Ok(report)

@@ -27,7 +27,7 @@ use Rattle.pf_core.specs.declared.tables.Node.{Node}
 use Rattle.pf_core.specs.declared.tables.Seat.{Seat}
 use Rattle.pf_core.specs.Tables.{word_code, seat_at, code_in, list_in}
 use Rattle.pf_core.specs.First.{first_word, list_for, first_node, start_seat}
-use Rattle.pf_core.specs.Shown.{ShowsSeat, ShowsActor, Shows, opening_of}
+use Rattle.pf_core.specs.Shown.{ShowsSeat, ShowsActor, ShowsState, opening_of}
 use Rattle.pf_star_model.specs.Lent.{is_held, AgreesOn}
 use Rattle.pf_star_model.proofs.Operations.{held_shown}
 use Rattle.pf_core_model.proofs.Owing.{star_in_none}
@@ -105,7 +105,7 @@ first_number (suc n) h = refl
 pub opening_shows : (m : Undivided) (budget workers : ℕ) (lent : ℕ → Option Star) (s : State) → IsConforming m → IsFresh m 0 → 1 ≤ workers → m.first_new + budget ≤ 1048576
     → ((n : ℕ) → lent n ≡ star_of m n) → s.first_new ≡ m.first_new → s.chunks ≡ m.chunks → s.bands.items ≡ m.bands
     → s.nodes.items ≡ map (first_node lent m.first_new m.chunks) (counting 0 (m.first_new + budget)) → s.seats.items ≡ map (start_seat budget) (counting 0 workers) → s.log.items ≡ []
-    → Shows (opening_of m budget workers) (opening_state (opening_of m budget workers)) s
+    → ShowsState (opening_of m budget workers) (opening_state (opening_of m budget workers)) s
 opening_shows m budget workers lent s conforming fresh some_worker small lends first chunks bands nodes seats log =
     let o : Opening = opening_of m budget workers in
     let core = opens_core o record { conforming = conforming; fresh = fresh; some_worker = some_worker; small = small } in

@@ -61,7 +61,7 @@ use Rattle.pf_core.specs.Tables.{node_at, seat_at, code_in, list_in, is_clear_se
 use Rattle.pf_core.specs.Gates.{can_make_by, can_commit, IsShownTo}
 use Rattle.pf_dues.specs.Owed.{owed_all}
 use Rattle.pf_core.specs.Making.{starred, absent_by, born_by, count_by, committed_seat}
-use Rattle.pf_core.specs.Shown.{ShowsSeat, Shows, IsShown as IsSome, IsAct}
+use Rattle.pf_core.specs.Shown.{ShowsSeat, ShowsState, IsShown as IsSome, IsAct}
 use Rattle.pf_core.proofs.Kept.{IsActor, sound, names, tickets_are, codes_next, at, acts, own, seat, lead_is, mine, fits, clear_is, held_near, pair_of, star_is, holds_is, seen_held, acted_core, acted_grows, eq_true, eq_false, lt_is, both_ways}
 use Rattle.pf_core.proofs.Moves.{IsOf, refused, taken, core_taken, grows_taken, other_node, put_shows}
 use Rattle.pf_core.proofs.Noting.{held_fun, star_fun, held_of, seen_of, shown_to, judged_is}
@@ -148,7 +148,7 @@ decide : (n : ℕ) (ns : List ℕ) (P : Type 0) → (In n ns → P) → ((In n n
 decide n [] P hit miss = miss (λ h. h)
 decide n (k ∷ ks) P hit miss = dite (ℕ_discrete n k) (λ e. hit (inl e)) (λ ne. decide n ks P (λ h. hit (inr h)) (λ out. miss (λ h. ⊎_elim (λ (e : n ≡ k). ne e) (λ (i : In n ks). out i) h)))
 
-module _ (o : Opening) (c : CoreState) (s : State) (sh : Shows o c s) (a chunk : ℕ) (op : Op) (f : Found) (found : found_from a 0 c.actors ≡ Some f) where
+module _ (o : Opening) (c : CoreState) (s : State) (sh : ShowsState o c s) (a chunk : ℕ) (op : Op) (f : Found) (found : found_from a 0 c.actors ≡ Some f) where
   conforms : IsConforming (mesh_of o c)
   conforms = (shows_one_mesh o c sh.core).conforming
 
@@ -486,7 +486,7 @@ module _ (o : Opening) (c : CoreState) (s : State) (sh : Shows o c s) (a chunk :
     pub commit_shows : (t : State) (name : ℕ) → name ≡ o.mesh.first_new + tickets_in o c → IsOf s t → t.log.items ≡ s.log.items ++ record { ticket = tickets_in o c; chunk = chunk; op = op } ∷ []
         → t.nodes.items ≡ starred patch s.nodes.items → t.seats.items ≡ set s.seats.items a (committed_seat op name (owed_all (star_seen s.nodes.items s.seats.items a) patch) (seat_at s.seats.items a))
         → IsCore o (commit_state o c f (record { ticket = tickets_in o c; chunk = chunk; op = op })) → HasGrown (log_of o c) (log_of o (commit_state o c f (record { ticket = tickets_in o c; chunk = chunk; op = op })))
-        → Shows o (commit_state o c f (record { ticket = tickets_in o c; chunk = chunk; op = op })) t
+        → ShowsState o (commit_state o c f (record { ticket = tickets_in o c; chunk = chunk; op = op })) t
     commit_shows t name is of log nodes seats core' grown =
         let e : Entry = record { ticket = tickets_in o c; chunk = chunk; op = op } in
         let d : CoreState = commit_state o c f e in
@@ -524,7 +524,7 @@ IsPatchOf s a op name pairs = (m : Undivided) (chunk ticket : ℕ) → CanApply 
     → ((n : ℕ) → Contains (cavity_of m chunk op) n → IsShown (star_seen s.nodes.items s.seats.items a) m n) → name ≡ m.first_new + ticket → m.first_new + ticket ≤ 4294967295
     → pairs ≡ patch_of (star_seen s.nodes.items s.seats.items a) name op
 
-module _ (o : Opening) (c : CoreState) (s : State) (sh : Shows o c s) (a chunk : ℕ) (op : Op) (f : Found) (found : found_from a 0 c.actors ≡ Some f) (able : can_commit s.nodes.items s.seats.items s.bands.items a chunk op ≡ true) (name : ℕ) (pairs : List Pair) (is : name ≡ s.first_new + length s.log.items) (patched_is : IsPatchOf s a op name pairs) where
+module _ (o : Opening) (c : CoreState) (s : State) (sh : ShowsState o c s) (a chunk : ℕ) (op : Op) (f : Found) (found : found_from a 0 c.actors ≡ Some f) (able : can_commit s.nodes.items s.seats.items s.bands.items a chunk op ≡ true) (name : ℕ) (pairs : List Pair) (is : name ≡ s.first_new + length s.log.items) (patched_is : IsPatchOf s a op name pairs) where
   pub name_is : name ≡ o.mesh.first_new + tickets_in o c
   name_is = is ∙ (λ i. sh.first_new i + sym (tickets_are o c s sh) i)
 

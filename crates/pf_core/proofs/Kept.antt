@@ -36,7 +36,7 @@ use Rattle.pf_core.specs.declared.word.Word.TheVariants.{Never}
 use Rattle.pf_core.specs.declared.tables.Node.{Node}
 use Rattle.pf_core.specs.declared.tables.Seat.{Seat}
 use Rattle.pf_core.specs.Tables.{word_code, no_node, node_at, seat_at, word_seen, code_seen, code_in, list_in, is_clear_seat, is_lead, is_this, holds, star_seen}
-use Rattle.pf_core.specs.Shown.{ShowsSeat, ShowsActor, Shows, IsShown}
+use Rattle.pf_core.specs.Shown.{ShowsSeat, ShowsActor, ShowsState, IsShown}
 
 -- tests
 pub lt_true : (a b : ℕ) → a < b → nat_lt a b ≡ true
@@ -200,7 +200,7 @@ pair_of n [] h = absurd h
 pair_of n (p ∷ ps) (inl e) = (p, inl refl, sym e)
 pair_of n (p ∷ ps) (inr h) = let r = pair_of n ps h in (r.0, inr r.1, r.2)
 
-module _ (o : Opening) (c : CoreState) (s : State) (sh : Shows o c s) where
+module _ (o : Opening) (c : CoreState) (s : State) (sh : ShowsState o c s) where
   abbrev pub nodes : List Node
   nodes = s.nodes.items
 
@@ -386,7 +386,7 @@ module _ (o : Opening) (c : CoreState) (s : State) (sh : Shows o c s) where
 pub record IsActor (s : State) (a : ℕ) : Type 0 where
   pub opening : Opening
   pub state : CoreState
-  pub shown : Shows opening state s
+  pub shown : ShowsState opening state s
   pub place : Found
   pub found : found_from a 0 state.actors ≡ Some place
 
@@ -421,7 +421,7 @@ member q (x ∷ xs) h = ⊎_elim (λ (e : (q == x) ≡ true). inl (eq_is q x e))
 pub few_held : (s : State) (a : ℕ) → IsShown s → is_lead s.seats.items a ≡ true → (seat_at s.seats.items a).held ≤ 1048576
 few_held s a shown h =
     let r = actor_of_lead s a shown h in
-    let sh : Shows r.opening r.state s = r.shown in
+    let sh : ShowsState r.opening r.state s = r.shown in
     let v : View = r.place.actor.view in
     let fit = fits r.opening r.state s sh a r.place r.found in
     let many : length (nodes_of v) ≤ names_of r.opening = length-le_from_distinct_below (nodes_of v) (names_of r.opening) (distinct (nodes_of v) fit.once) (λ q e. fit.near q (member q (nodes_of v) e)) in

@@ -25,7 +25,7 @@ use Rattle.pf_core.specs.declared.state.State.{State}
 use Rattle.pf_core.specs.declared.tables.Node.{Node}
 use Rattle.pf_core.specs.declared.tables.Seat.{Seat}
 use Rattle.pf_core.specs.Tables.{node_at, seat_at, code_seen, code_in, list_in, is_clear_seat, held_node, more_held}
-use Rattle.pf_core.specs.Shown.{ShowsSeat, Shows, IsAct}
+use Rattle.pf_core.specs.Shown.{ShowsSeat, ShowsState, IsAct}
 use Rattle.pf_core.specs.Gates.{can_lock, is_others, other_holder}
 use Rattle.pf_core.proofs.Kept.{names, code_near, code_here, word_is, word_at, list_is, codes_set, lists_same, at, own, seat, lead_is, mine, clear_is, acted_core, acted_grows, eq_is}
 use Rattle.pf_core.proofs.Moves.{IsOf, star_else, star_here, refused, taken, core_taken, grows_taken, log_stays, free_node, put_shows, learn_shows}

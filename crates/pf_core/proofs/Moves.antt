@@ -26,7 +26,7 @@ use Rattle.pf_core.specs.declared.state.State.{State}
 use Rattle.pf_core.specs.declared.tables.Node.{Node}
 use Rattle.pf_core.specs.declared.tables.Seat.{Seat}
 use Rattle.pf_core.specs.Tables.{no_node, no_seat, node_at, seat_at, code_seen, code_in, list_in}
-use Rattle.pf_core.specs.Shown.{ShowsSeat, ShowsActor, Shows, Stays}
+use Rattle.pf_core.specs.Shown.{ShowsSeat, ShowsActor, ShowsState, Stays}
 use Rattle.pf_core.proofs.Kept.{sound, names, code_near, code_here, word_at, tickets_are, at, acts, own, has_number, near, mine, seat, lead_is, lt_true}
 
 -- what no event changes
@@ -48,11 +48,11 @@ star_same nodes n m x low e = dite (ℕ_discrete m n)
     (λ ne. star_else nodes n m x ne)
 
 -- a guard that fails, and one that holds
-pub refused : (o : Opening) (c : CoreState) (s : State) → Shows o c s → (g : Bool) (t : CoreState) (v : Option ℕ) → g ≡ false → Shows o (guarded g c t v).state s × (Ignored ≡ (guarded g c t v).verdict)
+pub refused : (o : Opening) (c : CoreState) (s : State) → ShowsState o c s → (g : Bool) (t : CoreState) (v : Option ℕ) → g ≡ false → ShowsState o (guarded g c t v).state s × (Ignored ≡ (guarded g c t v).verdict)
 refused o c s sh true t v e = absurd (cc (e))
 refused o c s sh false t v e = (sh, refl)
 
-pub taken : (o : Opening) (c : CoreState) (s' : State) (g : Bool) (t : CoreState) (v : Option ℕ) → g ≡ true → Shows o t s' → Shows o (guarded g c t v).state s' × (Taken v ≡ (guarded g c t v).verdict)
+pub taken : (o : Opening) (c : CoreState) (s' : State) (g : Bool) (t : CoreState) (v : Option ℕ) → g ≡ true → ShowsState o t s' → ShowsState o (guarded g c t v).state s' × (Taken v ≡ (guarded g c t v).verdict)
 taken o c s' true t v e sh = (sh, refl)
 taken o c s' false t v e sh = absurd (cc (e))
 
@@ -93,7 +93,7 @@ log_stays o c d k l grown same =
     let none : length grown.0 ≡ 0 = omega arith in
     grown.1 ∙ ap (λ (x : List Entry). log_of o c ++ x) (no_more grown.0 none) ∙ append-nil (log_of o c)
 
-module _ (o : Opening) (c : CoreState) (s : State) (sh : Shows o c s) (a : ℕ) (f : Found) (found : found_from a 0 c.actors ≡ Some f) where
+module _ (o : Opening) (c : CoreState) (s : State) (sh : ShowsState o c s) (a : ℕ) (f : Found) (found : found_from a 0 c.actors ≡ Some f) where
   abbrev place : ℕ
   place = f.place
 
@@ -129,7 +129,7 @@ module _ (o : Opening) (c : CoreState) (s : State) (sh : Shows o c s) (a : ℕ) 
       → t.seats.items ≡ set s.seats.items a seat' → seat'.lead ≡ a → b.view.numbers ≡ f.actor.view.numbers → ShowsSeat seat' b
       → ((p : Pair) → In p b.view.held → (node_at t.nodes.items p.node).star ≡ p.star)
       → ((j : ℕ) (u : Actor) → j ≢ f.place → get_elem? c.actors j ≡ some u → (p : Pair) → In p u.view.held → (node_at t.nodes.items p.node).star ≡ (node_at s.nodes.items p.node).star)
-      → Shows o (record { words = words'; lists = lists'; actors = set c.actors f.place b }) t
+      → ShowsState o (record { words = words'; lists = lists'; actors = set c.actors f.place b }) t
   put_shows t words' lists' b seat' of core' words lists log seats lead numbers shows stars others =
       let low : a < length s.seats.items = near o c s sh a f found in
       let here : seat_at t.seats.items a ≡ seat' = ap (λ (l : List Seat). seat_at l a) seats ∙ get_or-set_same s.seats.items a seat' no_seat low in
@@ -165,7 +165,7 @@ module _ (o : Opening) (c : CoreState) (s : State) (sh : Shows o c s) (a : ℕ) 
   -- a view that learns something, and changes nothing that is kept
   pub learn_shows : (w : View) → IsCore o (put c f.place record { view = w; owed = f.actor.owed }) → HasGrown (log_of o c) (log_of o (put c f.place record { view = w; owed = f.actor.owed }))
       → w.numbers ≡ f.actor.view.numbers → w.allowance ≡ f.actor.view.allowance → w.held ≡ f.actor.view.held → w.unborn ≡ f.actor.view.unborn
-      → Shows o (put c f.place record { view = w; owed = f.actor.owed }) s
+      → ShowsState o (put c f.place record { view = w; owed = f.actor.owed }) s
   learn_shows w core' grown numbers allowance held unborn =
       let low : a < length s.seats.items = near o c s sh a f found in
       let t : Seat = seat_at s.seats.items a in

@@ -26,7 +26,7 @@ use Rattle.pf_core_model.proofs.OneMesh.{shows_one_mesh}
 use Rattle.pf_core.specs.declared.state.State.{State}
 use Rattle.pf_core.specs.Tables.{node_at, holds, star_seen}
 use Rattle.pf_core.specs.Gates.{can_judge_by, can_judge_at, IsShownTo}
-use Rattle.pf_core.specs.Shown.{Shows, IsAct}
+use Rattle.pf_core.specs.Shown.{ShowsState, IsAct}
 use Rattle.pf_core.proofs.Kept.{tickets_are, few_tickets, fits, mine, holds_is, star_is, seen_held, pair_of, acted_core, acted_grows}
 use Rattle.pf_core.proofs.Moves.{refused, taken, core_taken, grows_taken, learn_shows}
 
@@ -35,7 +35,7 @@ judge_is_by held chunk (Flip a b) = refl
 judge_is_by held chunk (Bisect a b) = refl
 judge_is_by held chunk (Contract u v) = refl
 
-module _ (o : Opening) (c : CoreState) (s : State) (sh : Shows o c s) (a : ℕ) (f : Found) (found : found_from a 0 c.actors ≡ Some f) where
+module _ (o : Opening) (c : CoreState) (s : State) (sh : ShowsState o c s) (a : ℕ) (f : Found) (found : found_from a 0 c.actors ≡ Some f) where
   -- what it holds, as functions
   pub held_fun : is_held f.actor.view.held ≡ holds s.nodes.items s.seats.items a
   held_fun = λ i n. holds_is o c s sh a f found n i
@@ -72,7 +72,7 @@ look_taken s a t is o c f sh found = (
 abbrev pub refusal : State → ℕ → Asked → Bool
 refusal s a q = can_judge_at s.nodes.items s.seats.items a q.chunk q.op && is_some (judged (star_seen s.nodes.items s.seats.items a) s.bands.items q.chunk q.op)
 
-module _ (o : Opening) (c : CoreState) (s : State) (sh : Shows o c s) (a : ℕ) (f : Found) (found : found_from a 0 c.actors ≡ Some f) (q : Asked) where
+module _ (o : Opening) (c : CoreState) (s : State) (sh : ShowsState o c s) (a : ℕ) (f : Found) (found : found_from a 0 c.actors ≡ Some f) (q : Asked) where
   abbrev step_at : Option Cond → Stepped
   step_at x = judge_step (can_judge f.actor.view.held q.chunk q.op) c f (tickets_in o c) q x
 
@@ -95,11 +95,11 @@ module _ (o : Opening) (c : CoreState) (s : State) (sh : Shows o c s) (a : ℕ) 
   right_true true e = absurd (let z : false ≡ true = e in cc)
   right_true false e = absurd (let z : false ≡ true = e in cc)
 
-  refuse_false : (x : Option Cond) → (can_judge f.actor.view.held q.chunk q.op && is_some x) ≡ false → Shows o (step_at x).state s × (Ignored ≡ (step_at x).verdict)
+  refuse_false : (x : Option Cond) → (can_judge f.actor.view.held q.chunk q.op && is_some x) ≡ false → ShowsState o (step_at x).state s × (Ignored ≡ (step_at x).verdict)
   refuse_false None e = (sh, refl)
   refuse_false (Some why) e = refused o c s sh (can_judge f.actor.view.held q.chunk q.op) (refuse_state c f (tickets_in o c) q.chunk q.op why) (Some (tickets_in o c)) (left_false (can_judge f.actor.view.held q.chunk q.op) e)
 
-  refuse_true : (x : Option Cond) → (can_judge f.actor.view.held q.chunk q.op && is_some x) ≡ true → IsCore o (step_at x).state → HasGrown (log_of o c) (log_of o (step_at x).state) → Shows o (step_at x).state s × (Taken (Some (tickets_in o c)) ≡ (step_at x).verdict)
+  refuse_true : (x : Option Cond) → (can_judge f.actor.view.held q.chunk q.op && is_some x) ≡ true → IsCore o (step_at x).state → HasGrown (log_of o c) (log_of o (step_at x).state) → ShowsState o (step_at x).state s × (Taken (Some (tickets_in o c)) ≡ (step_at x).verdict)
   refuse_true None e k g = absurd (right_true (can_judge f.actor.view.held q.chunk q.op) e)
   refuse_true (Some why) e k g =
       let able = left_part (can_judge f.actor.view.held q.chunk q.op) true e in
@@ -121,5 +121,5 @@ refuse_taken s a q b t is gate same o c f sh found =
     (acted_core o c s sh a f found (Note a (Some q)) refl) (acted_grows o c s sh a f found (Note a (Some q)) refl) in
     (r.0, ap (λ (k : ℕ). Taken (Some k)) (same ∙ sym (tickets_are o c s sh)) ∙ r.1)
 
-pub few_log : (o : Opening) (c : CoreState) (s : State) → Shows o c s → length s.log.items ≤ 1048576
+pub few_log : (o : Opening) (c : CoreState) (s : State) → ShowsState o c s → length s.log.items ≤ 1048576
 few_log o c s sh = few_tickets o c s sh

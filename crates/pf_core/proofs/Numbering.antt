@@ -29,7 +29,7 @@ use Rattle.pf_core.specs.declared.tables.Node.{Node}
 use Rattle.pf_core.specs.declared.tables.Seat.{Seat}
 use Rattle.pf_core.specs.Tables.{no_seat, node_at, seat_at, code_in, list_in, is_lead, is_clear_seat, with_allowance, first_seat, led_by}
 use Rattle.pf_core.specs.Gates.{is_spare, can_split, has_none, can_join}
-use Rattle.pf_core.specs.Shown.{ShowsSeat, ShowsActor, Shows, IsShown, IsAct}
+use Rattle.pf_core.specs.Shown.{ShowsSeat, ShowsActor, ShowsState, IsShown, IsAct}
 use Rattle.pf_core.proofs.Kept.{IsActor, actor_of_lead, sound, names, at, acts, own, has_number, near, seat, lead_is, mine, fits, clear_is, nothing_is, none_found, some_found, view_back, acted_core, acted_grows, lead_near, eq_is, eq_true, eq_false, lt_is, lt_true, both_ways}
 use Rattle.pf_core.proofs.Moves.{IsOf, refused, taken, core_taken, grows_taken, log_stays, other_number, other_numbers}
 
@@ -80,7 +80,7 @@ nil_is : {A : Type 0} (l : List A) → is_nil l ≡ true → l ≡ []
 nil_is [] h = refl
 nil_is (x ∷ xs) h = absurd (let z : false ≡ true = h in cc)
 
-module _ (o : Opening) (c : CoreState) (s : State) (sh : Shows o c s) (a : ℕ) (f : Found) (found : found_from a 0 c.actors ≡ Some f) where
+module _ (o : Opening) (c : CoreState) (s : State) (sh : ShowsState o c s) (a : ℕ) (f : Found) (found : found_from a 0 c.actors ≡ Some f) where
   once : (k : ℕ) → In k f.actor.view.numbers → times k f.actor.view.numbers ≤ 1
   once k h =
       let sum = (sound o c s sh).numbers k ((fits o c s sh a f found).below k h) in
@@ -224,7 +224,7 @@ led_here b a t e = ap (λ (x : Bool). (cond {A = Seat} x record { lead = a; allo
 led_else : (b a : ℕ) (t : Seat) → t.lead ≢ b → led_by b a t ≡ t
 led_else b a t ne = ap (λ (x : Bool). cond {A = Seat} x record { lead = a; allowance = t.allowance; held = t.held; absent = t.absent; unborn = t.unborn; owed = t.owed } t) (eq_false t.lead b ne)
 
-module _ (o : Opening) (c : CoreState) (s : State) (sh : Shows o c s) (a b : ℕ) (f g : Found) (found : found_from a 0 c.actors ≡ Some f) (other : found_from b 0 c.actors ≡ Some g) where
+module _ (o : Opening) (c : CoreState) (s : State) (sh : ShowsState o c s) (a b : ℕ) (f g : Found) (found : found_from a 0 c.actors ≡ Some f) (other : found_from b 0 c.actors ≡ Some g) where
   none_is : (x : ℕ) (h : Found) → found_from x 0 c.actors ≡ Some h → has_nothing h.actor ≡ has_none (seat_at s.seats.items x)
   none_is x h e = λ i. idle_is o c s sh x h e i && nothing_is o c s sh x h e i
 
@@ -247,7 +247,7 @@ module _ (o : Opening) (c : CoreState) (s : State) (sh : Shows o c s) (a b : ℕ
 pub join_ignored : (s : State) (a b : ℕ) → can_join s.seats.items a b ≡ false → IsAct (Join a b) s Ignored s
 join_ignored s a b no_gate o c f sh found = go (found_from b 0 c.actors) refl
   where
-    go : (x : Option Found) → found_from b 0 c.actors ≡ x → Shows o (join_step c f x).state s × (Ignored ≡ (join_step c f x).verdict)
+    go : (x : Option Found) → found_from b 0 c.actors ≡ x → ShowsState o (join_step c f x).state s × (Ignored ≡ (join_step c f x).verdict)
     go None e = (sh, refl)
     go (Some g) e =
         let lead : is_lead s.seats.items b ≡ true = (λ i. lt_true b (length s.seats.items) (near o c s sh b g e) i && eq_true (seat_at s.seats.items b).lead b (lead_is o c s sh b g e) i) in
@@ -260,14 +260,14 @@ few_sum s a b shown lead able =
     let r = actor_of_lead s a shown lead in
     let o : Opening = r.opening in
     let c : CoreState = r.state in
-    let sh : Shows o c s = r.shown in
+    let sh : ShowsState o c s = r.shown in
     let f : Found = r.place in
     let rest = and_right (is_lead s.seats.items b) (not (a == b) && (has_none (seat_at s.seats.items a) && has_none (seat_at s.seats.items b))) able in
     let lead_b = and_left (is_lead s.seats.items b) (not (a == b) && (has_none (seat_at s.seats.items a) && has_none (seat_at s.seats.items b))) able in
     let far : (a == b) ≡ false = not_true (a == b) (and_left (not (a == b)) (has_none (seat_at s.seats.items a) && has_none (seat_at s.seats.items b)) rest) in
     go o c sh f r.found lead_b far (found_from b 0 c.actors) refl
   where
-    go : (o : Opening) (c : CoreState) (sh : Shows o c s) (f : Found) → found_from a 0 c.actors ≡ Some f → is_lead s.seats.items b ≡ true → (a == b) ≡ false
+    go : (o : Opening) (c : CoreState) (sh : ShowsState o c s) (f : Found) → found_from a 0 c.actors ≡ Some f → is_lead s.seats.items b ≡ true → (a == b) ≡ false
         → (x : Option Found) → found_from b 0 c.actors ≡ x → (seat_at s.seats.items a).allowance + (seat_at s.seats.items b).allowance ≤ 1048576
     go o c sh f found lead_b far None e = absurd (some_found o c s sh b (lead_near s.seats.items b lead_b)
         (eq_is (seat_at s.seats.items b).lead b (and_right (nat_lt b (length s.seats.items)) ((seat_at s.seats.items b).lead == b) lead_b)) e)
@@ -285,7 +285,7 @@ pub join_taken : (s t : State) (a b : ℕ) → can_join s.seats.items a b ≡ tr
     → IsAct (Join a b) s (Taken None) t
 join_taken s t a b able of log nodes seats o c f sh found = go (found_from b 0 c.actors) refl
   where
-    go : (x : Option Found) → found_from b 0 c.actors ≡ x → Shows o (join_step c f x).state t × (Taken None ≡ (join_step c f x).verdict)
+    go : (x : Option Found) → found_from b 0 c.actors ≡ x → ShowsState o (join_step c f x).state t × (Taken None ≡ (join_step c f x).verdict)
     go None e =
         let lead_b = and_left (is_lead s.seats.items b) (not (a == b) && (has_none (seat_at s.seats.items a) && has_none (seat_at s.seats.items b))) able in
         absurd (some_found o c s sh b (lead_near s.seats.items b lead_b) (eq_is (seat_at s.seats.items b).lead b (and_right (nat_lt b (length s.seats.items)) ((seat_at s.seats.items b).lead == b) lead_b)) e)

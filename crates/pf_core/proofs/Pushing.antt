@@ -21,11 +21,11 @@ use Rattle.pf_core.specs.declared.tables.Node.{Node}
 use Rattle.pf_core.specs.declared.tables.Seat.{Seat}
 use Rattle.pf_core.specs.Tables.{node_at, seat_at, code_in, list_in, holds, star_seen, listed_node, paid_seat}
 use Rattle.pf_core.specs.Gates.{can_push}
-use Rattle.pf_core.specs.Shown.{ShowsSeat, Shows, IsAct}
+use Rattle.pf_core.specs.Shown.{ShowsSeat, ShowsState, IsAct}
 use Rattle.pf_core.proofs.Kept.{names, codes_same, lists_set, list_is, at, seat, lead_is, mine, is_owed_is, held_near, pair_of, in_any, acted_core, acted_grows}
 use Rattle.pf_core.proofs.Moves.{IsOf, star_same, refused, taken, core_taken, grows_taken, log_stays, put_shows}
 
-module _ (o : Opening) (c : CoreState) (s : State) (sh : Shows o c s) (a chunk n : ℕ) (f : Found) (found : found_from a 0 c.actors ≡ Some f) where
+module _ (o : Opening) (c : CoreState) (s : State) (sh : ShowsState o c s) (a chunk n : ℕ) (f : Found) (found : found_from a 0 c.actors ≡ Some f) where
   -- the node of an owed copy is held
   owed_held : can_push s.seats.items a chunk n ≡ true → In n (nodes_of f.actor.view)
   owed_held able =

@@ -29,7 +29,7 @@ use Rattle.pf_core.specs.declared.tables.Node.{Node}
 use Rattle.pf_core.specs.declared.tables.Seat.{Seat}
 use Rattle.pf_core.specs.Tables.{word_code, node_at, seat_at, code_seen, code_in, list_in, holds, is_this, star_seen, put_back_node, born_node, less_held, born_seat}
 use Rattle.pf_core.specs.Gates.{can_return, can_release, can_bury, can_birth}
-use Rattle.pf_core.specs.Shown.{ShowsSeat, Shows, IsAct}
+use Rattle.pf_core.specs.Shown.{ShowsSeat, ShowsState, IsAct}
 use Rattle.pf_core.proofs.Kept.{sound, names, code_near, code_here, word_is, word_at, codes_set, lists_same, at, own, seat, lead_is, mine, fits, owes_is, holds_is, star_is, seen_held, held_near, pair_of, acted_core, acted_grows, eq_is, eq_true, eq_false, both_ways}
 use Rattle.pf_core.proofs.Moves.{IsOf, star_else, star_here, star_same, refused, taken, core_taken, grows_taken, log_stays, other_node, put_shows}
 
@@ -74,7 +74,7 @@ return_near nodes seats a n h =
     let by : code_seen nodes n ≡ held_by a = eq_is (code_seen nodes n) (held_by a) (and_left (code_seen nodes n == held_by a) (not (owes_of n (seat_at seats a).owed) && not (is_some (seat_at seats a).unborn)) h) in
     code_near nodes n (λ two. omega arith)
 
-module _ (o : Opening) (c : CoreState) (s : State) (sh : Shows o c s) (a n : ℕ) (f : Found) (found : found_from a 0 c.actors ≡ Some f) where
+module _ (o : Opening) (c : CoreState) (s : State) (sh : ShowsState o c s) (a n : ℕ) (f : Found) (found : found_from a 0 c.actors ≡ Some f) where
   return_is : can_put_back o c f n ≡ can_return s.nodes.items s.seats.items a n
   return_is = λ i. (word_is o c s sh n i == held_by (own o c s sh a f found i)) && (not (owes_is o c s sh a f found n i) && not (is_some (sym (seat o c s sh a f found).unborn i)))
 
@@ -95,7 +95,7 @@ module _ (o : Opening) (c : CoreState) (s : State) (sh : Shows o c s) (a n : ℕ
       → IsCore o (back_state c f n (word_code word)) → log_of o (back_state c f n (word_code word)) ≡ log_of o c
       → ((m : ℕ) → absent ≡ Some m → In (record { node = m; star = None }) (without n f.actor.view.held))
       → ((p : Pair) → In p (without n f.actor.view.held) → p.star ≡ None → absent ≡ Some p.node)
-      → Shows o (back_state c f n (word_code word)) t
+      → ShowsState o (back_state c f n (word_code word)) t
   back_shows t word absent able of log nodes seats core' log' is_absent all_absent =
       let old : List Node = s.nodes.items in
       let inside : In n (nodes_of f.actor.view) = seen_held o c s sh a f found n (return_held able) in
@@ -179,7 +179,7 @@ bury_taken s t a n able of log nodes seats o c f sh found =
     none_there (Some y) h = absurd (let z : false ≡ true = h in cc)
 
 -- a new node is held as any other
-module _ (o : Opening) (c : CoreState) (s : State) (sh : Shows o c s) (a n : ℕ) (f : Found) (found : found_from a 0 c.actors ≡ Some f) where
+module _ (o : Opening) (c : CoreState) (s : State) (sh : ShowsState o c s) (a n : ℕ) (f : Found) (found : found_from a 0 c.actors ≡ Some f) where
   this_is : (x : Option ℕ) → is_this x n ≡ true → x ≡ Some n
   this_is None k = absurd (let z : false ≡ true = k in cc)
   this_is (Some m) k = ap (λ (j : ℕ). Some j) (eq_is m n k)
@@ -236,7 +236,7 @@ birth_taken s t a n able of log nodes seats o c f sh found =
     (λ j u ne there p h. ap (λ (l : List Node). (node_at l p.node).star) nodes ∙ star_same old n p.node x low refl))
 
 -- the unborn node stands in the table
-pub birth_near : (o : Opening) (c : CoreState) (s : State) (a n : ℕ) (f : Found) → Shows o c s → found_from a 0 c.actors ≡ Some f → can_birth s.seats.items a n ≡ true → n < length s.nodes.items
+pub birth_near : (o : Opening) (c : CoreState) (s : State) (a n : ℕ) (f : Found) → ShowsState o c s → found_from a 0 c.actors ≡ Some f → can_birth s.seats.items a n ≡ true → n < length s.nodes.items
 birth_near o c s a n f sh found able =
     let this = and_left (is_this (seat_at s.seats.items a).unborn n) (not (owes_of n (seat_at s.seats.items a).owed)) able in
     held_near o c s sh a f found n (seen_held o c s sh a f found n (or_right (code_seen s.nodes.items n == held_by a) (is_this (seat_at s.seats.items a).unborn n) this))

@@ -14,7 +14,7 @@ use Rattle.pf_core.specs.declared.state.State.{State}
 use Rattle.pf_core.specs.declared.tables.Node.{Node}
 use Rattle.pf_core.specs.Tables.{node_at, code_in}
 use Rattle.pf_core.specs.Part.{is_free_at, is_free_spoke, tri_for, tris_at, tris_from, part_from, count_codes}
-use Rattle.pf_core.specs.Shown.{Shows}
+use Rattle.pf_core.specs.Shown.{ShowsState}
 use Rattle.pf_core.proofs.Kept.{names, word_is, list_is}
 
 -- no more names have a word than there are
@@ -29,7 +29,7 @@ fewer test (n ∷ ns) = go (test n) (fewer test ns)
 pub count_low : (test : ℕ → Bool) (nodes : List Node) → count_codes test nodes ≤ length nodes
 count_low test nodes = let z = fewer test (map code_in nodes) in let y = length-map nodes code_in in omega arith
 
-module _ (o : Opening) (c : CoreState) (s : State) (sh : Shows o c s) where
+module _ (o : Opening) (c : CoreState) (s : State) (sh : ShowsState o c s) where
   free_is : (n : ℕ) → is_free (names_of o) c.words n ≡ is_free_at s.nodes.items n
   free_is n = go (nat_lt n (names_of o)) ∙ ap (λ (k : ℕ). k == 0) (word_is o c s sh n)
     where

@@ -36,7 +36,7 @@ pub record ShowsActor (seats : List Seat) (nodes : List Node) (x : Actor) : Type
   pub stars : (p : Pair) → In p x.view.held → (node_at nodes p.node).star ≡ p.star
 
 -- the state shows this sound state of the model, which began with this opening
-pub record Shows (o : Opening) (c : CoreState) (s : State) : Type 0 where
+pub record ShowsState (o : Opening) (c : CoreState) (s : State) : Type 0 where
   pub core : IsCore o c
   pub first_new : s.first_new ≡ o.mesh.first_new
   pub chunks : s.chunks ≡ o.mesh.chunks
@@ -51,16 +51,16 @@ pub record Shows (o : Opening) (c : CoreState) (s : State) : Type 0 where
 pub record IsShown (s : State) : Type 0 where
   pub opening : Opening
   pub state : CoreState
-  pub shown : Shows opening state s
+  pub shown : ShowsState opening state s
 
 -- the second state shows what an event makes of each state that the first shows, and the verdict is its
 abbrev pub IsStep : Event → State → Verdict → State → Type 0
-IsStep e old v new = (o : Opening) (c : CoreState) → Shows o c old → Shows o (stepped o c e).state new × (v ≡ (stepped o c e).verdict)
+IsStep e old v new = (o : Opening) (c : CoreState) → ShowsState o c old → ShowsState o (stepped o c e).state new × (v ≡ (stepped o c e).verdict)
 
 -- the same of an event whose actor is found
 abbrev pub IsAct : Event → State → Verdict → State → Type 0
-IsAct e old v new = (o : Opening) (c : CoreState) (f : Found) → Shows o c old → found_from (actor_of e) 0 c.actors ≡ Some f → Shows o (acted o c e f).state new × (v ≡ (acted o c e f).verdict)
+IsAct e old v new = (o : Opening) (c : CoreState) (f : Found) → ShowsState o c old → found_from (actor_of e) 0 c.actors ≡ Some f → ShowsState o (acted o c e f).state new × (v ≡ (acted o c e f).verdict)
 
 -- nothing changed
 abbrev pub Stays : State → State → Type 0
-Stays old new = (o : Opening) (c : CoreState) → Shows o c old → Shows o c new
+Stays old new = (o : Opening) (c : CoreState) → ShowsState o c old → ShowsState o c new

@@ -130,7 +130,7 @@ fn stars_of(alloc: Global, m: &Mesh) -> Result<StarSet, NoMemory>
 }
 
 impl State {
-    ghost use Rattle.pf_core.specs.Shown.{Shows, opening_of};
+    ghost use Rattle.pf_core.specs.Shown.{ShowsState, opening_of};
 
     /// The state at the start: the actor 0, with the spare numbers below `workers` and the whole budget. No live
     /// name is the first new one or above it. Want of memory is the only failure.
@@ -139,7 +139,7 @@ impl State {
         requires few_workers { workers ≤ 64 }
         requires fresh { IsFresh m.now.mesh 0 }
         requires small { m.now.mesh.first_new + budget ≤ 1048576 }
-        ensures { IfOk result (λ s. Shows (opening_of m.now.mesh budget workers) (opening_state (opening_of m.now.mesh budget workers)) s) }
+        ensures { IfOk result (λ s. ShowsState (opening_of m.now.mesh budget workers) (opening_state (opening_of m.now.mesh budget workers)) s) }
     {
         let first = m.first_new();
         let many = m.chunks();

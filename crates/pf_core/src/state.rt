@@ -31,26 +31,26 @@ pub struct State {
 impl State {
     ghost use Rattle.pf_core.specs.Part.{counts_in};
     ghost use Rattle.pf_core.specs.Tables.{word_code};
-    ghost use Rattle.pf_core.specs.Shown.{Shows, IsShown};
+    ghost use Rattle.pf_core.specs.Shown.{ShowsState, IsShown};
 
     /// How many tickets were drawn.
     pub fn tickets(&self) -> u32
         requires { IsShown self.now }
-        ensures { (o : Opening) (c : CoreState) → Shows o c self.now → result ≡ tickets_in o c }
+        ensures { (o : Opening) (c : CoreState) → ShowsState o c self.now → result ≡ tickets_in o c }
     {
         self.log.len() as u32
     }
 
     /// What the word of a name says: `Never` for a name outside.
     pub fn word(&self, n: u32) -> Word
-        ensures { (o : Opening) (c : CoreState) → Shows o c self.now → word_code result ≡ word_of o c n }
+        ensures { (o : Opening) (c : CoreState) → ShowsState o c self.now → word_code result ≡ word_of o c n }
     {
         word_at(&self.nodes, n)
     }
 
     /// A chunk's copy of a node.
     pub fn copy(&self, chunk: u16, n: u32) -> Option<&Star>
-        ensures { (o : Opening) (c : CoreState) → Shows o c self.now → option_map (λ r. r.now) result ≡ copy_at c.lists chunk n }
+        ensures { (o : Opening) (c : CoreState) → ShowsState o c self.now → option_map (λ r. r.now) result ≡ copy_at c.lists chunk n }
     {
         copy_in(&self.nodes, chunk, n)
     }
@@ -59,7 +59,7 @@ impl State {
     /// memory is the only failure.
     pub fn free_part(&self, alloc: Global) -> Result<Vec<Tri>, NoMemory>
         requires { IsShown self.now }
-        ensures { IfOk result (λ v. (o : Opening) (c : CoreState) → Shows o c self.now → v.items ≡ free_part_of o c) }
+        ensures { IfOk result (λ v. (o : Opening) (c : CoreState) → ShowsState o c self.now → v.items ≡ free_part_of o c) }
     {
         let list = part_of(alloc, &self.nodes)?;
         Ok(list)
@@ -68,14 +68,14 @@ impl State {
     /// How many names are free, held, dead, and never live or unborn.
     pub fn counts(&self) -> Counts
         requires { IsShown self.now }
-        ensures { (o : Opening) (c : CoreState) → Shows o c self.now → counts_in result ≡ counted_of o c }
+        ensures { (o : Opening) (c : CoreState) → ShowsState o c self.now → counts_in result ≡ counted_of o c }
     {
         counts_of(&self.nodes)
     }
 
     /// The entries by ticket. Want of memory is the only failure.
     pub fn history(&self, alloc: Global) -> Result<Vec<Entry>, NoMemory>
-        ensures { IfOk result (λ v. (o : Opening) (c : CoreState) → Shows o c self.now → v.items ≡ log_of o c) }
+        ensures { IfOk result (λ v. (o : Opening) (c : CoreState) → ShowsState o c self.now → v.items ≡ log_of o c) }
     {
         let mut list = Vec::new(alloc);
         list.extend_from_slice(&self.log).map_err(|_| NoMemory)?;

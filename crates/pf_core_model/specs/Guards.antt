@@ -39,7 +39,7 @@ abbrev pub HoldsCavity : View → ℕ → Op → Type 0
 HoldsCavity v chunk op = (m : Undivided) → IsMeshOf v m → (n : ℕ) → In n (cavity_of m chunk op) → In n (nodes_of v)
 
 -- the pairs are those of the view, patched by the entry, with that of the new node in front
-pub record IsPatch (v : View) (e : Entry) (fresh : List Held) : Type 0 where
+pub record IsViewPatch (v : View) (e : Entry) (fresh : List Held) : Type 0 where
   pub nodes : nodes_in fresh ≡ made_list v.first_new e ++ nodes_of v
   pub pairs : (m : Undivided) → IsMeshOf v m → IsFresh m e.ticket → first_failing m e.chunk e.op ≡ None → (p : Held) → In p fresh → p.star ≡ star_of (applied m e) p.node
 
@@ -59,7 +59,7 @@ JudgedKeepsSound = OverSound (λ o words homes views log id v. (chunk : ℕ) (op
 abbrev pub MadeKeepsSound : Type 0
 MadeKeepsSound = OverSound (λ o words homes views log id v. (homes' : Homes) (e : Entry) (fresh : List Held)
     → length homes' ≡ length homes → ((n : ℕ) → makes o.mesh.first_new n e ≡ false → get_elem? homes' n ≡ get_elem? homes n)
-    → v.numbers ≢ [] → v.unborn ≡ None → 0 < v.allowance → e.ticket ≡ length log → IsJudged v e.chunk e.op None → HoldsCavity v e.chunk e.op → IsPatch v e fresh
+    → v.numbers ≢ [] → v.unborn ≡ None → 0 < v.allowance → e.ticket ≡ length log → IsJudged v e.chunk e.op None → HoldsCavity v e.chunk e.op → IsViewPatch v e fresh
     → Sound o (slice_set words (names_of o) (length log + 1)) homes' (slice_set views id (committed v e fresh (unborn_by v.first_new e))) (log ++ e ∷ []))
 
 -- the word of a node that the view doesn't hold names another actor, if any; and none where the view is alone
@@ -72,13 +72,13 @@ NeighbourIsNear = OverSound (λ o words homes views log id v. (p : Held) (x : �
 
 -- what a view that is alone knows: the history is its own entries by ticket, all of them seen, and what is left of the budget is its
 -- allowance
-pub record KnowsAll (o : Opening) (log : List Entry) (v : View) : Type 0 where
+pub record KnowsHistory (o : Opening) (log : List Entry) (v : View) : Type 0 where
   pub history : history_from 0 (length log) v.entries ≡ log
   pub seen : v.seen ≡ length log
   pub budget : v.allowance + length log ≡ o.budget
 
-abbrev pub AloneKnowsAll : Type 0
-AloneKnowsAll = OverSound (λ o words homes views log id v. v.numbers ≢ [] → IsAlone v → KnowsAll o log v)
+abbrev pub AloneKnowsHistory : Type 0
+AloneKnowsHistory = OverSound (λ o words homes views log id v. v.numbers ≢ [] → IsAlone v → KnowsHistory o log v)
 
 -- where it holds nothing either, each name's copies are at home, and they are those of the mesh after the history
 abbrev pub AloneShowsCopies : Type 0

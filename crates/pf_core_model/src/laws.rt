@@ -1,7 +1,7 @@
 //! Laws of the definitions, each as the contract of a function that does no work.
 
 ghost use Rattle.pf_core_model.specs.Laws.{BirthKeepsSound, BuryKeepsSound, CommitKeepsSound, FindKeepsSound, HistoryIsOfViews, JoinKeepsSound, LockKeepsSound, LostKeepsSound, NeverKeepsSound, NoteKeepsSound, RefusalKeepsSound, ReleaseKeepsSound, SplitKeepsSound};
-ghost use Rattle.pf_core_model.specs.Guards.{AloneKnowsAll, AloneShowsCopies, HeldPairsAgree, JudgedKeepsSound, MadeKeepsSound, NeighbourIsNear, OthersHold};
+ghost use Rattle.pf_core_model.specs.Guards.{AloneKnowsHistory, AloneShowsCopies, HeldPairsAgree, JudgedKeepsSound, MadeKeepsSound, NeighbourIsNear, OthersHold};
 ghost use Rattle.pf_core_model.specs.Lives.{GoneStaysGone, LaterWasNever, LiveIsBelow};
 ghost use Rattle.pf_core_model.specs.Right.{AnswersAreRight, FactsLast, GainsAreTrue, MarksAgree, TruthIsRight};
 ghost use Rattle.pf_core_model.specs.Seats.{AloneHoldsLive, FirstKnows, HolderIsNumber, JoinKnows, SeatKnows, SplitKnows, TicketIsNew};
@@ -136,7 +136,7 @@ pub fn neighbour_is_near()
 
 /// A law, and no work: an actor that is alone knows the whole history.
 pub fn alone_knows_all()
-    ensures { AloneKnowsAll }
+    ensures { AloneKnowsHistory }
 {}
 
 /// A law, and no work: each event leaves the history, or adds to its end.

@@ -6,7 +6,7 @@ use Rattle.pf_model.specs.declared.Band.{Band}
 use Rattle.pf_model.specs.Mesh.{Undivided}
 use Rattle.pf_model.specs.Conforming.{IsConforming}
 use Rattle.pf_edges.specs.declared.table.Node.{Node}
-use Rattle.pf_edges.specs.Table.{Sides, Shows, AreInRange}
+use Rattle.pf_edges.specs.Table.{Sides, Shows, ArePlacesInRange}
 
 -- the mesh with these parts
 abbrev pub mesh_of : ℕ → List Site → List Tri → List Band → ℕ → Undivided
@@ -16,4 +16,4 @@ mesh_of first_new sites tris bands chunks = record { first_new = first_new; site
 pub record IsKept (sides : Sides) (nodes : List Node) (m : Undivided) : Type 0 where
   pub conforming : IsConforming m
   pub shows : Shows sides nodes m
-  pub in_range : AreInRange nodes
+  pub in_range : ArePlacesInRange nodes

@@ -52,7 +52,7 @@ pub record Shows (table : Sides) (nodes : List Node) (m : Undivided) : Type 0 wh
   pub sites : (n : ℕ) → site_at nodes n ≡ point_of m.sites n
 
 -- the corners of the triangle are names of the table
-pub record IsWithin (nodes : List Node) (t : Tri) : Type 0 where
+pub record HasNamedCorners (nodes : List Node) (t : Tri) : Type 0 where
   pub first : t.a < length nodes
   pub second : t.b < length nodes
   pub third : t.c < length nodes
@@ -67,7 +67,7 @@ abbrev pub point_or_origin : List Node → ℕ → Point
 point_or_origin nodes n = unwrap_or (site_at nodes n) record { x = pos 0; y = pos 0 }
 
 -- every place of the table is in range
-pub record AreInRange (nodes : List Node) : Type 0 where
+pub record ArePlacesInRange (nodes : List Node) : Type 0 where
   pub each : (n : ℕ) → IsInRange (place_at nodes n)
 
 -- the table has these points and no triangles

@@ -1,6 +1,6 @@
 //! The nodes of the edge table by name: more names, and where a new node stands.
 ghost use Rattle.std.specs.Prelude.{◌≡◌, ℕ, ◌<◌, ◌≤◌, ◌==◌, length, ◌≢◌, cond, vec_len, vec_capacity, slice_index_or};
-ghost use Rattle.pf_edges.specs.Table.{AreInRange, triangles_at, no_node, place_at};
+ghost use Rattle.pf_edges.specs.Table.{ArePlacesInRange, triangles_at, no_node, place_at};
 ghost use Rattle.pf_geom.specs.Plane.{IsInRange};
 
 use crate::table::{EdgeTable, Node};
@@ -62,7 +62,7 @@ impl EdgeTable {
         ensures others { (k : ℕ) → n ≢ k → place_at self.new.nodes.items k ≡ place_at self.old.nodes.items k }
         ensures names { length self.old.nodes.items ≤ length self.new.nodes.items }
         ensures named { n < length self.new.nodes.items }
-        ensures in_range { AreInRange self.old.nodes.items → AreInRange self.new.nodes.items }
+        ensures in_range { ArePlacesInRange self.old.nodes.items → ArePlacesInRange self.new.nodes.items }
         ensures stands { place_at self.new.nodes.items n ≡ at }
         ensures room { vec_capacity self.old.nodes ≤ vec_capacity self.new.nodes }
     {

@@ -10,7 +10,7 @@ ghost use Rattle.pf_model.specs.declared.Tri.{Tri};
 ghost use Rattle.pf_model.specs.Rising.{insert_by};
 ghost use Rattle.pf_model.specs.Mesh.{tri_lt, has_edge, has_corner};
 ghost use Rattle.pf_model.specs.Build.{point_at};
-ghost use Rattle.pf_edges.specs.Table.{IsEmptyTable, side_at, site_at, place_at, triangles_at, point_or_origin, AreInRange, IsWithin, HasSamePlaces, ShowsTriangles};
+ghost use Rattle.pf_edges.specs.Table.{IsEmptyTable, side_at, site_at, place_at, triangles_at, point_or_origin, ArePlacesInRange, HasNamedCorners, HasSamePlaces, ShowsTriangles};
 ghost use Rattle.pf_edges.specs.Hasher.{place_of_edge};
 ghost use Rattle.pf_model.specs.Exchange.{IsTurned, SharesNoEdge, CanExchange, exchanged, number_at};
 ghost use Rattle.pf_model.specs.Limits.{most_spokes};
@@ -315,7 +315,7 @@ fn lower(nodes: &mut Vec<Node>, n: u32)
 // The corners of a triangle have one triangle more.
 #[inline(always)]
 fn raise_corners(nodes: &mut Vec<Node>, t: Tri)
-    requires { IsWithin nodes.old.items t }
+    requires { HasNamedCorners nodes.old.items t }
     ensures counts { IsTurned t → ((n : ℕ) → triangles_at nodes.old.items n < 2 ^ 62)
         → (n : ℕ) → triangles_at nodes.new.items n ≡ cond (has_corner n t) 1 0 + triangles_at nodes.old.items n }
     ensures places { HasSamePlaces nodes.old.items nodes.new.items }
@@ -329,7 +329,7 @@ fn raise_corners(nodes: &mut Vec<Node>, t: Tri)
 // The corners of a triangle have one triangle less.
 #[inline(always)]
 fn lower_corners(nodes: &mut Vec<Node>, t: Tri)
-    requires { IsWithin nodes.old.items t }
+    requires { HasNamedCorners nodes.old.items t }
     ensures counts { IsTurned t → (n : ℕ) → triangles_at nodes.new.items n ≡ triangles_at nodes.old.items n - cond (has_corner n t) 1 0 }
     ensures places { HasSamePlaces nodes.old.items nodes.new.items }
     ensures room { vec_capacity nodes.old ≤ vec_capacity nodes.new }
@@ -342,7 +342,7 @@ fn lower_corners(nodes: &mut Vec<Node>, t: Tri)
 // The corners of each of the triangles have one triangle more for it.
 #[inline(never)]
 fn raise_all(nodes: &mut Vec<Node>, new: &[Tri])
-    requires { All (IsWithin nodes.old.items) new.now }
+    requires { All (HasNamedCorners nodes.old.items) new.now }
     ensures counts { All IsTurned new.now → ((n : ℕ) → triangles_at nodes.old.items n + length new.now < 2 ^ 62)
         → (n : ℕ) → triangles_at nodes.new.items n ≡ number_at n new.now + triangles_at nodes.old.items n }
     ensures places { HasSamePlaces nodes.old.items nodes.new.items }
@@ -356,7 +356,7 @@ fn raise_all(nodes: &mut Vec<Node>, new: &[Tri])
 // The corners of each of the triangles have one triangle less for it.
 #[inline(never)]
 fn lower_all(nodes: &mut Vec<Node>, removed: &[Tri])
-    requires { All (IsWithin nodes.old.items) removed.now }
+    requires { All (HasNamedCorners nodes.old.items) removed.now }
     ensures counts { All IsTurned removed.now → (n : ℕ) → triangles_at nodes.new.items n ≡ triangles_at nodes.old.items n - number_at n removed.now }
     ensures places { HasSamePlaces nodes.old.items nodes.new.items }
     ensures room { vec_capacity nodes.old ≤ vec_capacity nodes.new }
@@ -391,7 +391,7 @@ impl EdgeTable {
 
     /// Puts a triangle in.
     pub fn put(&mut self, t: Tri)
-        requires within { IsWithin self.old.nodes.items t }
+        requires within { HasNamedCorners self.old.nodes.items t }
         requires room { 3 ≤ spare self.old.sides }
         ensures shows { (ts : List Tri) → ShowsTriangles self.old.sides self.old.nodes.items ts → IsTurned t → SharesNoEdge t ts
             → ShowsTriangles self.new.sides self.new.nodes.items (insert_by tri_lt t ts) }
@@ -409,8 +409,8 @@ impl EdgeTable {
     pub fn exchange(&mut self, u: u32, v: u32, removed: &[Tri], new: &[Tri])
         requires removed_few { length removed.now ≤ most_spokes }
         requires new_few { length new.now ≤ most_spokes }
-        requires removed_within { All (IsWithin self.old.nodes.items) removed.now }
-        requires new_within { All (IsWithin self.old.nodes.items) new.now }
+        requires removed_within { All (HasNamedCorners self.old.nodes.items) removed.now }
+        requires new_within { All (HasNamedCorners self.old.nodes.items) new.now }
         requires room { 3 * length new.now ≤ spare self.old.sides }
         ensures shows { (ts : List Tri) → ShowsTriangles self.old.sides self.old.nodes.items ts → CanExchange removed.now new.now ts
             → ShowsTriangles self.new.sides self.new.nodes.items (exchanged removed.now new.now ts) }
@@ -460,7 +460,7 @@ impl EdgeTable {
 
     /// The same, which is in range where every place is.
     pub fn point(&self, n: u32) -> Point
-        requires { AreInRange self.now.nodes.items }
+        requires { ArePlacesInRange self.now.nodes.items }
         ensures value { result ≡ point_or_origin self.now.nodes.items n }
         ensures in_range { IsInRange result }
     {

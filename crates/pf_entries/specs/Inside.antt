@@ -33,6 +33,6 @@ AreApart es = (t : ℕ) → times t es ≤ 1
 abbrev pub seen_in : Chain → Chain → EntryMap
 seen_in ready full = record { entries = map_of (entries_in ready ++ entries_in full); spare = room_in ready }
 
-pub record IsKept (ready full : Chain) : Type 0 where
+pub record AreKeptChains (ready full : Chain) : Type 0 where
   pub room : HasRoom ready
   pub apart : AreApart (entries_in ready ++ entries_in full)

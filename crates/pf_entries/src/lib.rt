@@ -35,11 +35,11 @@ impl Model for Entries {
 
     ghost coded = { entry_map_code };
 
-    ghost use Rattle.pf_entries.specs.Inside.{seen_in, IsKept};
+    ghost use Rattle.pf_entries.specs.Inside.{seen_in, AreKeptChains};
 
     ghost view = { λ a. seen_in a.ready a.full };
 
-    ghost invariant = { λ a. IsKept a.ready a.full };
+    ghost invariant = { λ a. AreKeptChains a.ready a.full };
 }
 
 impl Entries {

@@ -20,7 +20,7 @@ use Rattle.pf_core_model.proofs.Told.{live_known}
 use Rattle.pf_core_model.proofs.Replays.{made_name, replayed_first_new}
 use Rattle.pf_holder.specs.Facts.{AreSeen, KnowsAll, history_in, mesh_alone}
 use Rattle.pf_finish.specs.Passing.{IsAnswer}
-use Rattle.pf_finish.specs.Done.{AreAnswers, HasAnswered, IsFinished, IsAnswered}
+use Rattle.pf_finish.specs.Done.{AreAnswers, HasWorkedOff, IsFinished, IsAnswered}
 use Rattle.pf_finish.specs.Covers.{is_covered, Covers, IsStep, IsNoted}
 use Rattle.pf_finish.specs.declared.pass.FinishEnd.{FinishEnd}
 use Rattle.pf_finish.specs.declared.tries.Answered.{Answered}
@@ -31,7 +31,7 @@ answers-then : (o : Opening) (before es fs : List Entry) → AreAnswers o before
 answers-then o before es [] a b = a
 answers-then o before es (f ∷ fs) a b = (subst (λ (l : List Entry). IsAnswer (mesh_alone o l) f.chunk f.op) (sym (append_assoc fs es before)) b.0, answers-then o before es fs a b.1)
 
-has-then : (o : Opening) (rich : ℕ) (before : List Entry) (left : ℕ) (after : List Entry) (left' : ℕ) (after' : List Entry) → HasAnswered o rich before left after → HasAnswered o left after left' after' → HasAnswered o rich before left' after'
+has-then : (o : Opening) (rich : ℕ) (before : List Entry) (left : ℕ) (after : List Entry) (left' : ℕ) (after' : List Entry) → HasWorkedOff o rich before left after → HasWorkedOff o left after left' after' → HasWorkedOff o rich before left' after'
 has-then o rich before left after left' after' a b =
     record {
       added = b.added ++ a.added;
@@ -40,15 +40,15 @@ has-then o rich before left after left' after' a b =
       paid = let k = length-append b.added a.added in let p = a.paid in let q = b.paid in omega (arith, k, p, q);
     }
 
-has-none : (o : Opening) (rich : ℕ) (before : List Entry) (left : ℕ) (after : List Entry) → left ≡ rich → after ≡ before → HasAnswered o rich before left after
+has-none : (o : Opening) (rich : ℕ) (before : List Entry) (left : ℕ) (after : List Entry) → left ≡ rich → after ≡ before → HasWorkedOff o rich before left after
 has-none o rich before left after l e = record { added = []; grown = e; answers = tt; paid = omega (arith, l) }
 
 -- the allowance doesn't rise
-pub has-less : (o : Opening) (rich : ℕ) (before : List Entry) (left : ℕ) (after : List Entry) → HasAnswered o rich before left after → left ≤ rich
+pub has-less : (o : Opening) (rich : ℕ) (before : List Entry) (left : ℕ) (after : List Entry) → HasWorkedOff o rich before left after → left ≤ rich
 has-less o rich before left after a = let k = a.paid in omega (arith, k)
 
 -- where it stays, nothing was added
-pub has-stayed : (o : Opening) (rich : ℕ) (before : List Entry) (left : ℕ) (after : List Entry) → HasAnswered o rich before left after → left ≡ rich → after ≡ before
+pub has-stayed : (o : Opening) (rich : ℕ) (before : List Entry) (left : ℕ) (after : List Entry) → HasWorkedOff o rich before left after → left ≡ rich → after ≡ before
 has-stayed o rich before left after a l = go a.added refl
   where
     go : (es : List Entry) → a.added ≡ es → after ≡ before
@@ -182,8 +182,8 @@ both-stayed o o' rich before from left after end left' after' end' a b l =
     (same, omega (arith, l, low, low'), has-stayed o rich before left after a.answered same, a.stays same)
 
 -- a pass more
-pub pass-more : (o o' : Opening) (rich : ℕ) (before : List Entry) (left : ℕ) (after : List Entry) (end : ℕ) (left' : ℕ) (after' : List Entry) (end' : ℕ) → o' ≡ o → HasAnswered o rich before left after → IsStep o' left after end left' after' end' → HasAnswered o rich before left' after'
-pass-more o o' rich before left after end left' after' end' q a b = has-then o rich before left after left' after' a (subst (λ (p : Opening). HasAnswered p left after left' after') q b.answered)
+pub pass-more : (o o' : Opening) (rich : ℕ) (before : List Entry) (left : ℕ) (after : List Entry) (end : ℕ) (left' : ℕ) (after' : List Entry) (end' : ℕ) → o' ≡ o → HasWorkedOff o rich before left after → IsStep o' left after end left' after' end' → HasWorkedOff o rich before left' after'
+pass-more o o' rich before left after end left' after' end' q a b = has-then o rich before left after left' after' a (subst (λ (p : Opening). HasWorkedOff p left after left' after') q b.answered)
 
 pub pass-covers : (o o' : Opening) (live : List ℕ) (left : ℕ) (after : List Entry) (end : ℕ) (left' : ℕ) (after' : List Entry) (end' : ℕ) → o' ≡ o → Covers o live after end → IsStep o' left after end left' after' end' → Covers o live after' end'
 pass-covers o o' live left after end left' after' end' q c b = subst (λ (p : Opening). Covers p live after' end') q (b.covers live (subst (λ (p : Opening). Covers p live after end) (sym q) c))

@@ -9,7 +9,7 @@ use Rattle.pf_core_model.specs.Core.{Opening}
 use Rattle.pf_holder.specs.Facts.{history_in, mesh_alone}
 use Rattle.pf_finish.specs.Passing.{has_passing}
 use Rattle.pf_finish.specs.Seen.{IsSettled}
-use Rattle.pf_finish.specs.Done.{HasAnswered}
+use Rattle.pf_finish.specs.Done.{HasWorkedOff}
 use Rattle.pf_finish.specs.declared.tries.Answered.{Answered}
 use Rattle.pf_finish.specs.declared.tries.Answered.TheVariants.{Done, Spent, Memory}
 
@@ -24,7 +24,7 @@ pub record Covers (o : Opening) (live : List ℕ) (entries : List Entry) (end : 
 
 -- what was done between two moments: answers alone, and the names of new nodes are looked at too
 pub record IsStep (o : Opening) (rich : ℕ) (before : List Entry) (from : ℕ) (left : ℕ) (after : List Entry) (end : ℕ) : Type 0 where
-  pub answered : HasAnswered o rich before left after
+  pub answered : HasWorkedOff o rich before left after
   pub covers : (live : List ℕ) → Covers o live before from → Covers o live after end
   pub stays : left ≡ rich → end ≡ from
 

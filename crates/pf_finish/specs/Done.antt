@@ -20,7 +20,7 @@ AreAnswers o before [] = Unit {0}
 AreAnswers o before (e ∷ es) = IsAnswer (mesh_alone o (es ++ before)) e.chunk e.op × AreAnswers o before es
 
 -- the entries have grown by answers, and the allowance has fallen by as many
-pub record HasAnswered (o : Opening) (rich : ℕ) (before : List Entry) (left : ℕ) (after : List Entry) : Type 0 where
+pub record HasWorkedOff (o : Opening) (rich : ℕ) (before : List Entry) (left : ℕ) (after : List Entry) : Type 0 where
   pub added : List Entry
   pub grown : after ≡ added ++ before
   pub answers : AreAnswers o before added

@@ -4,7 +4,7 @@ ghost use Rattle.pf_model.specs.Conforming.{IsLive};
 ghost use Rattle.pf_model.specs.Lengths.{edge_of};
 ghost use Rattle.pf_holder.specs.Facts.{LendsAll, mesh_alone};
 ghost use Rattle.pf_finish.specs.Seen.{IsSettled};
-ghost use Rattle.pf_finish.specs.Done.{HasAnswered, IsFinished};
+ghost use Rattle.pf_finish.specs.Done.{HasWorkedOff, IsFinished};
 ghost use Rattle.pf_finish.specs.Covers.{Covers, IsStep, IsNoted, IsSettledAt};
 
 use crate::edges::edge_answered;
@@ -290,7 +290,7 @@ fn passes_made<H: Holder>(alloc: Global, h: &mut H, live: &[u32], todo: &mut Tod
     ensures same { H.same h.old h.new }
     ensures nothing { (H.pairs h.new ≡ []) × (H.unborn h.new ≡ None) × (H.owed h.new ≡ []) }
     ensures lends { LendsAll (H.lent h.new) (H.pairs h.new) }
-    ensures answered { HasAnswered (H.opening h.old) (H.allowance h.old) (H.entries h.old) (H.allowance h.new) (H.entries h.new) }
+    ensures answered { HasWorkedOff (H.opening h.old) (H.allowance h.old) (H.entries h.old) (H.allowance h.new) (H.entries h.new) }
     ensures finished { IsFinished (mesh_alone (H.opening h.old) (H.entries h.new)) (H.allowance h.new) result }
 {
     let mut end = h.first_new();
@@ -322,7 +322,7 @@ pub fn finish<H: Holder>(alloc: Global, h: &mut H, live: &[u32]) -> FinishEnd
     ensures same { H.same h.old h.new }
     ensures nothing { (H.pairs h.new ≡ []) × (H.unborn h.new ≡ None) × (H.owed h.new ≡ []) }
     ensures lends { LendsAll (H.lent h.new) (H.pairs h.new) }
-    ensures answered { HasAnswered (H.opening h.old) (H.allowance h.old) (H.entries h.old) (H.allowance h.new) (H.entries h.new) }
+    ensures answered { HasWorkedOff (H.opening h.old) (H.allowance h.old) (H.entries h.old) (H.allowance h.new) (H.entries h.new) }
     ensures finished { IsFinished (mesh_alone (H.opening h.old) (H.entries h.new)) (H.allowance h.new) result }
 {
     let mut todo = Todo::new(alloc);

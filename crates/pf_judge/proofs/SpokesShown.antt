@@ -6,7 +6,7 @@ use Rattle.pf_model.specs.Mesh.{Undivided, side_of, place_of}
 use Rattle.pf_model.specs.Conforming.{IsConforming}
 use Rattle.pf_model.specs.Stars.{spokes_of, is_neighbour}
 use Rattle.pf_edges.specs.declared.table.Node.{Node}
-use Rattle.pf_edges.specs.Table.{Sides, Shows, side_at, point_or_origin, AreInRange, place_at, triangles_at}
+use Rattle.pf_edges.specs.Table.{Sides, Shows, side_at, point_or_origin, ArePlacesInRange, place_at, triangles_at}
 use Rattle.pf_rules.specs.Star.{IsSpokeOn, IsSpokeBefore}
 use Rattle.pf_rules.proofs.StarSpokes.{spoke_with, some_same, spoke-on_some, spoke-on_none, spoke-before_some, spoke-before_none}
 use Rattle.pf_rules.proofs.ContractReads.{or_swap, neighbour-edge}
@@ -48,7 +48,7 @@ spoke-before_not sides nodes m ok s u l e =
     }
 
 -- a point that the table gives is in range
-pub spot-in_range : (nodes : List Node) (n : ℕ) → AreInRange nodes → IsInRange (point_or_origin nodes n)
+pub spot-in_range : (nodes : List Node) (n : ℕ) → ArePlacesInRange nodes → IsInRange (point_or_origin nodes n)
 spot-in_range nodes n range = go (nat_lt 0 (triangles_at nodes n))
   where
     go : (b : Bool) → IsInRange (unwrap_or (cond b (Some (place_at nodes n)) None) record { x = pos 0; y = pos 0 })

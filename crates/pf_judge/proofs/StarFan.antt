@@ -13,7 +13,7 @@ use Rattle.pf_model.proofs.FlipKeeps.{corners_of}
 use Rattle.pf_model.proofs.Spokes.{spokes-simple, spokes-means}
 use Rattle.pf_edges.specs.declared.table.Node.{Node}
 use Rattle.pf_edges.specs.Table.{Sides, Shows, triangles_at}
-use Rattle.pf_rules.specs.Star.{IsSpokeOn, IsSpokeBefore, IsChain, IsChainToLeft, IsTurned, IsFan}
+use Rattle.pf_rules.specs.Star.{IsSpokeOn, IsSpokeBefore, IsChain, IsChainToLeft, IsWholeTurn, IsFan}
 use Rattle.pf_rules.proofs.StarLists.{right-more}
 use Rattle.pf_judge.proofs.StarTurns.{chain-one, chain-left, chain-right, bare-left, bare-right, round-left, round-right, all-found, all-there, all-fan, torn-apart}
 use Rattle.pf_rules.proofs.StarSpokes.{spokes-rise, spokes-counted, edge-spoke}
@@ -62,15 +62,15 @@ module _ (m : Undivided) (ok : IsConforming m) (u : ℕ) where
         after = λ r k q. right-more r.right x found (t.after r k q);
       }
 
-  pub right-open : (found : List Spoke) (first last : ℕ) → IsChainToLeft (spokes_of m u) found first last → IsSpokeBefore (spokes_of m u) first None → IsTurned (spokes_of m u) found
+  pub right-open : (found : List Spoke) (first last : ℕ) → IsChainToLeft (spokes_of m u) found first last → IsSpokeBefore (spokes_of m u) first None → IsWholeTurn (spokes_of m u) found
   right-open found first last t s = record { first = first; last = last; left = t; before = λ r h e. absurd (s.absent refl r h e) }
 
-  pub right-ends : (found : List Spoke) (first last most : ℕ) → IsChainToLeft (spokes_of m u) found first last → length (spokes_of m u) ≡ most → (most ≤ length found) ⊎ (last ≡ first) → IsTurned (spokes_of m u) found
+  pub right-ends : (found : List Spoke) (first last most : ℕ) → IsChainToLeft (spokes_of m u) found first last → length (spokes_of m u) ≡ most → (most ≤ length found) ⊎ (last ≡ first) → IsWholeTurn (spokes_of m u) found
   right-ends found first last most t e (inl l) = record { first = first; last = last; left = t; before = λ s h q. all-there (spokes_of m u) simple (spokes-rise m ok u) found t.chain.part (omega (arith, e, l)) s h }
   right-ends found first last most t e (inr q) = record { first = first; last = last; left = t; before = round-right (spokes_of m u) simple found first last t.chain q }
 
   -- what was found is all that there is, or no fan
-  pub fan-found : (most n : ℕ) (found : List Spoke) → IsTurned (spokes_of m u) found → length (spokes_of m u) ≡ most → n ≡ length found → IsFan (spokes_of m u) (n == most) found
+  pub fan-found : (most n : ℕ) (found : List Spoke) → IsWholeTurn (spokes_of m u) found → length (spokes_of m u) ≡ most → n ≡ length found → IsFan (spokes_of m u) (n == most) found
   fan-found most n found t e q = go (n == most) refl
     where
       less : (a b : ℕ) → (a == b) ≡ false → a ≢ b

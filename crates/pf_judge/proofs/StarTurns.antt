@@ -13,7 +13,7 @@ use Rattle.pf_model.proofs.RisingLemmas.{rising-nil, rising-same, rising-head, r
 use Rattle.pf_model.proofs.Totals.{different-append, map-means}
 use Rattle.pf_model.proofs.Fans.{IsSimple, left_after-some}
 use Rattle.pf_model.proofs.OneFan.{beside_next, beside_rights, beside_join, beside_last, beside_fan, cycle_closes, cycle_ends}
-use Rattle.pf_rules.specs.Star.{ArePart, IsChain, IsTurned}
+use Rattle.pf_rules.specs.Star.{AreSomeOf, IsChain, IsWholeTurn}
 use Rattle.pf_spokes.specs.Spokes.{has_right}
 use Rattle.pf_rules.proofs.StarLists.{eq_holds, apart, bool_cases, right-in, right-means, part-more, part-length, rising-one, spoke_order}
 
@@ -34,7 +34,7 @@ first_of_list [] l = absurd (let k : 0 < 0 = l in omega arith)
 first_of_list (s ∷ ss) l = (s, here s ss)
 
 module _ (spokes : List Spoke) (o : IsSimple spokes) where
-  part-simple : (found : List Spoke) → ArePart spokes found → IsSimple found
+  part-simple : (found : List Spoke) → AreSomeOf spokes found → IsSimple found
   part-simple found p =
       record {
         one_left = λ s t hs ht e. o.one_left s t (p.within s hs) (p.within t ht) e;
@@ -87,7 +87,7 @@ module _ (spokes : List Spoke) (o : IsSimple spokes) where
 
   -- the spoke where they end is none of them, unless they end where they begin
   module _ (up : IsRising spoke_lt spokes) where
-    one-of : (found : List Spoke) (s : Spoke) → ArePart spokes found → Contains spokes s → has_right s.right found ≡ true → Contains found s
+    one-of : (found : List Spoke) (s : Spoke) → AreSomeOf spokes found → Contains spokes s → has_right s.right found ≡ true → Contains found s
     one-of found s p h e = let r = right-means s.right found e in subst (λ w. Contains found w) (rising-one spokes up r.0 s (p.within r.0 r.1) h r.2) r.1
 
     pub bare-left : (found : List Spoke) (first last : ℕ) (s : Spoke) → IsChain spokes found first last → Contains spokes s → s.right ≡ last → last ≢ first → has_right s.right found ≡ false
@@ -113,10 +113,10 @@ module _ (spokes : List Spoke) (o : IsSimple spokes) where
 
   -- as many as there are
   module _ (up : IsRising spoke_lt spokes) where
-    pub all-found : (found : List Spoke) → ArePart spokes found → length spokes ≤ length found → found ≡ spokes
+    pub all-found : (found : List Spoke) → AreSomeOf spokes found → length spokes ≤ length found → found ≡ spokes
     all-found found p l = elim (part-length found spokes p.rise up p.within) [ inl e ↦ e | inr k ↦ absurd (omega (arith, l, k)) ]
 
-    pub all-there : (found : List Spoke) → ArePart spokes found → length spokes ≤ length found → (s : Spoke) → Contains spokes s → has_right s.right found ≡ true
+    pub all-there : (found : List Spoke) → AreSomeOf spokes found → length spokes ≤ length found → (s : Spoke) → Contains spokes s → has_right s.right found ≡ true
     all-there found p l s h = right-in s.right found s (subst (λ w. Contains w s) (sym (all-found found p l)) h) refl
 
     -- then they are one fan
@@ -124,7 +124,7 @@ module _ (spokes : List Spoke) (o : IsSimple spokes) where
     all-fan found first last t l = beside_fan t.order spokes first last o (subst (λ w. IsOrderOf t.order w) (all-found found t.part l) t.orders) t.beside
 
   -- the spoke that begins where one of these ends is one of these
-  goes-on : (found : List Spoke) → IsTurned spokes found → (r s : Spoke) → Contains found r → Contains spokes s → s.right ≡ r.left → has_right s.right found ≡ true
+  goes-on : (found : List Spoke) → IsWholeTurn spokes found → (r s : Spoke) → Contains found r → Contains spokes s → s.right ≡ r.left → has_right s.right found ≡ true
   goes-on found t r s h k e = go t.left.chain.order t.left.chain.orders t.left.chain.beside
     where
       go : (order : List Spoke) → IsOrderOf order found → AreBeside t.first order t.last → has_right s.right found ≡ true
@@ -132,7 +132,7 @@ module _ (spokes : List Spoke) (o : IsSimple spokes) where
       go (c ∷ order) a b = elim (beside_next order t.first t.last c b r (a.all r h)) [ inl q ↦ t.left.after s k (e ∙ q) | inr u ↦ right-in s.right found u.0 (a.only u.0 (there u.0 c order u.1)) (u.2 ∙ sym e) ]
 
   -- so is the spoke that ends where one of these begins
-  comes-from : (found : List Spoke) → IsTurned spokes found → (r s : Spoke) → Contains found r → Contains spokes s → s.left ≡ r.right → has_right s.right found ≡ true
+  comes-from : (found : List Spoke) → IsWholeTurn spokes found → (r s : Spoke) → Contains found r → Contains spokes s → s.left ≡ r.right → has_right s.right found ≡ true
   comes-from found t r s h k e =
       let c = t.left.chain in
       elim (beside_rights c.order t.first t.last c.beside r (c.orders.all r h)) [
@@ -185,7 +185,7 @@ each_or_one p (x ∷ xs) = go (bool_cases (p x.right)) (each_or_one p xs)
     go (inl e) (inl r) = inl (λ s h. elim (cases s x xs h) [ inl q ↦ subst (λ w. p w.right ≡ true) (sym q) e | inr i ↦ r s i ])
 
 -- fewer were found than there are: they are no one fan
-pub torn-apart : (spokes found : List Spoke) → IsSimple spokes → IsRising spoke_lt spokes → IsTurned spokes found → length found ≢ length spokes → is_one_fan spokes ≡ false
+pub torn-apart : (spokes found : List Spoke) → IsSimple spokes → IsRising spoke_lt spokes → IsWholeTurn spokes found → length found ≢ length spokes → is_one_fan spokes ≡ false
 torn-apart spokes found o up t less = go (is_one_fan spokes) refl
   where
     p : ℕ → Bool

@@ -8,7 +8,7 @@ ghost use Rattle.pf_model.specs.Conditions.{bisect_clauses, first_failing};
 ghost use Rattle.pf_rules.specs.EdgeSides.{AreEdgeSides};
 ghost use Rattle.pf_edges.specs.Kept.{IsKept};
 ghost use Rattle.pf_rules.specs.Change.{IsChange};
-ghost use Rattle.pf_edges.specs.Table.{AreInRange, Shows};
+ghost use Rattle.pf_edges.specs.Table.{ArePlacesInRange, Shows};
 
 use crate::conditions::apex_point;
 use crate::edge_sides::edge_sides;
@@ -24,7 +24,7 @@ use pf_rules::refusals::bisect_refusal;
 
 /// The middle of two names, where it is whole.
 pub fn middle_between(table: &EdgeTable, a: u32, b: u32) -> Option<Point>
-    requires { AreInRange table.now.nodes.items }
+    requires { ArePlacesInRange table.now.nodes.items }
     ensures in_range { IfSome result IsInRange }
     ensures value { (m : Undivided) → Shows table.now.sides table.now.nodes.items m → result ≡ middle_of (place_of m a) (place_of m b) }
 {
@@ -39,7 +39,7 @@ fn bisect_alone(
     hi: u32,
     edge_sides: EdgeSides,
 ) -> Option<Cond>
-    requires { AreInRange table.now.nodes.items }
+    requires { ArePlacesInRange table.now.nodes.items }
     ensures { (m : Undivided) → Shows table.now.sides table.now.nodes.items m → m.bands ≡ bands.now → AreEdgeSides m.tris lo hi edge_sides
         → result ≡ first_of (bisect_clauses m lo hi) }
 {
@@ -68,7 +68,7 @@ pub fn bisect_condition(
     b: u32,
     edge_sides: EdgeSides,
 ) -> Option<Cond>
-    requires { AreInRange table.now.nodes.items }
+    requires { ArePlacesInRange table.now.nodes.items }
     ensures { (m : Undivided) → Shows table.now.sides table.now.nodes.items m → m.bands ≡ bands.now → AreEdgeSides m.tris a b edge_sides
         → result ≡ first_failing m chunk (Bisect a b) }
 {
@@ -90,7 +90,7 @@ pub fn bisect_plan(
     removed: &mut Tris,
     new: &mut Tris,
 ) -> Option<Cond>
-    requires { AreInRange table.now.nodes.items }
+    requires { ArePlacesInRange table.now.nodes.items }
     ensures cond { (m : Undivided) → IsKept table.now.sides table.now.nodes.items m → m.bands ≡ bands.now → result ≡ first_failing m chunk (Bisect a b) }
     ensures change { (m : Undivided) → IsKept table.now.sides table.now.nodes.items m → result ≡ None
         → IsChange m n (Bisect a b) removed.new.items new.new.items }

@@ -7,7 +7,7 @@ ghost use Rattle.pf_model.specs.Rows.{apex_or};
 ghost use Rattle.pf_model.specs.Conditions.{flip_clauses, first_failing};
 ghost use Rattle.pf_model.specs.declared.Op.TheVariants.{Flip};
 ghost use Rattle.pf_rules.specs.EdgeSides.{AreEdgeSides};
-ghost use Rattle.pf_edges.specs.Table.{AreInRange, Shows};
+ghost use Rattle.pf_edges.specs.Table.{ArePlacesInRange, Shows};
 
 use pf_edges::table::EdgeTable;
 use pf_geom::Point;
@@ -19,7 +19,7 @@ use pf_rules::refusals::{apex_of, flip_refusal, there_refusal};
 
 /// Where the apex of a side stands, and the node 0 where there is none.
 pub fn apex_point(table: &EdgeTable, side: Option<Side>) -> Point
-    requires { AreInRange table.now.nodes.items }
+    requires { ArePlacesInRange table.now.nodes.items }
     ensures in_range { IsInRange result }
     ensures value { (m : Undivided) → Shows table.now.sides table.now.nodes.items m → result ≡ place_of m (apex_or side) }
 {
@@ -35,7 +35,7 @@ fn is_there(table: &EdgeTable, edge_sides: EdgeSides) -> bool
 
 /// The first condition of a flip alone that fails, where the triangles at the edge are at hand.
 pub fn flip_alone(table: &EdgeTable, lo: u32, hi: u32, edge_sides: EdgeSides) -> Option<Cond>
-    requires { AreInRange table.now.nodes.items }
+    requires { ArePlacesInRange table.now.nodes.items }
     ensures { (m : Undivided) → Shows table.now.sides table.now.nodes.items m → AreEdgeSides m.tris lo hi edge_sides
         → result ≡ first_of (flip_clauses m lo hi) }
 {
@@ -66,7 +66,7 @@ pub fn flip_condition(
     b: u32,
     edge_sides: EdgeSides,
 ) -> Option<Cond>
-    requires { AreInRange table.now.nodes.items }
+    requires { ArePlacesInRange table.now.nodes.items }
     ensures { (m : Undivided) → Shows table.now.sides table.now.nodes.items m → AreEdgeSides m.tris a b edge_sides
         → result ≡ first_failing m chunk (Flip a b) }
 {

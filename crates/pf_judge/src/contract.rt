@@ -8,7 +8,7 @@ ghost use Rattle.pf_model.specs.Conforming.{IsConforming};
 ghost use Rattle.pf_model.specs.Stars.{spokes_of, is_neighbour};
 ghost use Rattle.pf_model.specs.Rows.{least_that, inverted, is_too_long};
 ghost use Rattle.pf_model.specs.Conditions.{first_failing};
-ghost use Rattle.pf_edges.specs.Table.{AreInRange, Shows};
+ghost use Rattle.pf_edges.specs.Table.{ArePlacesInRange, Shows};
 ghost use Rattle.pf_rules.specs.EdgeSides.{AreEdgeSides};
 ghost use Rattle.pf_edges.specs.Kept.{IsKept};
 ghost use Rattle.pf_rules.specs.Change.{IsChange};
@@ -37,7 +37,7 @@ const MOST_SPOKES: u64 = pf_model::MOST_SPOKES as u64;
 
 // Whether the star's path, with these ends, bends at the node.
 fn is_bent(table: &EdgeTable, u: u32, first: Option<u32>, last: u32) -> bool
-    requires { AreInRange table.now.nodes.items }
+    requires { ArePlacesInRange table.now.nodes.items }
     ensures { (m : Undivided) → Shows table.now.sides table.now.nodes.items m
         → result ≡ (is_some first && not (int_eq (turn_at m (unwrap_or first 0) u last) (pos 0))) }
 {
@@ -79,7 +79,7 @@ fn least_link(table: &EdgeTable, v: u32, edge_sides: EdgeSides, names: &[u32]) -
 // Whether the edge from `v` to the node would be new, and is too long, where no neighbour of `v` but the
 // apices of the edge to `v` is one of the node that goes.
 fn is_new_long(table: &EdgeTable, bands: &[Band], v: u32, x: u32, edge_sides: EdgeSides) -> bool
-    requires { AreInRange table.now.nodes.items }
+    requires { ArePlacesInRange table.now.nodes.items }
     ensures { (m : Undivided) (u : ℕ) → IsConforming m → Shows table.now.sides table.now.nodes.items m → m.bands ≡ bands.now → AreEdgeSides m.tris u v edge_sides
         → is_link_at m u v (spokes_of m v) x ≡ false → result ≡ is_too_long m v (spokes_of m v) x }
 {
@@ -101,7 +101,7 @@ fn least_long(
     edge_sides: EdgeSides,
     names: &[u32],
 ) -> Option<u32>
-    requires { AreInRange table.now.nodes.items }
+    requires { ArePlacesInRange table.now.nodes.items }
     ensures { (m : Undivided) (u : ℕ) → IsConforming m → Shows table.now.sides table.now.nodes.items m → m.bands ≡ bands.now → AreEdgeSides m.tris u v edge_sides
         → least_that (is_link_at m u v (spokes_of m v)) names.now ≡ None → result ≡ least_that (is_too_long m v (spokes_of m v)) names.now }
 {
@@ -116,7 +116,7 @@ fn least_long(
 
 /// What the star of `u` says by itself, and that its nodes are close where that is told.
 pub fn shape(table: &EdgeTable, u: u32, star: &[Spoke], close: bool) -> StarShape
-    requires { AreInRange table.now.nodes.items }
+    requires { ArePlacesInRange table.now.nodes.items }
     ensures shape { (m : Undivided) → Shows table.now.sides table.now.nodes.items m → (close ≡ true → AreClose m star.now) → IsShape m u star.now result }
     ensures close { result.close ≡ close }
 {
@@ -141,7 +141,7 @@ fn least_far(
     shape: StarShape,
     names: &[u32],
 ) -> Option<u32>
-    requires { AreInRange table.now.nodes.items }
+    requires { ArePlacesInRange table.now.nodes.items }
     ensures { (m : Undivided) (u : ℕ) (us : List Spoke) → IsConforming m → Shows table.now.sides table.now.nodes.items m → m.bands ≡ bands.now → AreEdgeSides m.tris u v edge_sides
         → IsShape m u us shape → (shape.close ≡ true → is_neighbour v us ≡ true) → AreAround us names.now
         → least_that (is_link_at m u v (spokes_of m v)) names.now ≡ None → result ≡ least_that (is_too_long m v (spokes_of m v)) names.now }
@@ -164,7 +164,7 @@ pub fn shape_condition(
     star: &[Spoke],
     names: &[u32],
 ) -> Option<Cond>
-    requires in_range { AreInRange table.now.nodes.items }
+    requires in_range { ArePlacesInRange table.now.nodes.items }
     requires spots { All HasSpots star.now }
     ensures { (m : Undivided) (u : ℕ) → IsConforming m → Shows table.now.sides table.now.nodes.items m → m.bands ≡ bands.now → AreEdgeSides m.tris u v edge_sides
         → star.now ≡ spokes_of m u → IsShape m u star.now shape → (shape.close ≡ true → is_neighbour v star.now ≡ true) → AreAround star.now names.now
@@ -190,7 +190,7 @@ fn star_condition(
     star: &[Spoke],
     names: &mut Names,
 ) -> Option<Cond>
-    requires in_range { AreInRange table.now.nodes.items }
+    requires in_range { ArePlacesInRange table.now.nodes.items }
     requires few { length star.now ≤ most_spokes }
     requires spots { All HasSpots star.now }
     ensures { (m : Undivided) → IsConforming m → Shows table.now.sides table.now.nodes.items m → m.bands ≡ bands.now → AreEdgeSides m.tris u v edge_sides
@@ -221,7 +221,7 @@ pub fn contract_star(
     v: u32,
     lists: &mut StarLists,
 ) -> Option<Cond>
-    requires { AreInRange table.now.nodes.items }
+    requires { ArePlacesInRange table.now.nodes.items }
     ensures cond { (m : Undivided) → IsConforming m → Shows table.now.sides table.now.nodes.items m → m.bands ≡ bands.now
         → result ≡ first_failing m chunk (Contract u v) }
     ensures star { (m : Undivided) → IsConforming m → Shows table.now.sides table.now.nodes.items m → result ≡ None
@@ -257,7 +257,7 @@ pub fn contract_condition(
     u: u32,
     v: u32,
 ) -> Option<Cond>
-    requires { AreInRange table.now.nodes.items }
+    requires { ArePlacesInRange table.now.nodes.items }
     ensures { (m : Undivided) → IsConforming m → Shows table.now.sides table.now.nodes.items m → m.bands ≡ bands.now → result ≡ first_failing m chunk (Contract u v) }
 {
     let mut lists = StarLists::new();
@@ -274,7 +274,7 @@ pub fn contract_plan(
     v: u32,
     scratch: &mut Scratch,
 ) -> Option<Cond>
-    requires { AreInRange table.now.nodes.items }
+    requires { ArePlacesInRange table.now.nodes.items }
     ensures cond { (m : Undivided) → IsKept table.now.sides table.now.nodes.items m → m.bands ≡ bands.now → result ≡ first_failing m chunk (Contract u v) }
     ensures change { (m : Undivided) (n : ℕ) → IsKept table.now.sides table.now.nodes.items m → result ≡ None
         → IsChange m n (Contract u v) scratch.new.change.removed.items scratch.new.change.new.items }

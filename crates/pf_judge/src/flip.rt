@@ -5,7 +5,7 @@ ghost use Rattle.pf_model.specs.Mesh.{Undivided};
 ghost use Rattle.pf_model.specs.Conditions.{first_failing};
 ghost use Rattle.pf_edges.specs.Kept.{IsKept};
 ghost use Rattle.pf_rules.specs.Change.{IsChange};
-ghost use Rattle.pf_edges.specs.Table.{AreInRange};
+ghost use Rattle.pf_edges.specs.Table.{ArePlacesInRange};
 
 use crate::conditions::flip_condition;
 use crate::edge_sides::edge_sides;
@@ -24,7 +24,7 @@ pub fn flip_plan(
     removed: &mut Tris,
     new: &mut Tris,
 ) -> Option<Cond>
-    requires { AreInRange table.now.nodes.items }
+    requires { ArePlacesInRange table.now.nodes.items }
     ensures cond { (m : Undivided) → IsKept table.now.sides table.now.nodes.items m → result ≡ first_failing m chunk (Flip a b) }
     ensures change { (m : Undivided) (n : ℕ) → IsKept table.now.sides table.now.nodes.items m → result ≡ None
         → IsChange m n (Flip a b) removed.new.items new.new.items }

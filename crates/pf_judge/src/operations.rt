@@ -3,7 +3,7 @@ ghost use Rattle.std.specs.Prelude.{◌≡◌, None};
 ghost use Rattle.pf_model.specs.Mesh.{Undivided};
 ghost use Rattle.pf_model.specs.Conforming.{IsConforming};
 ghost use Rattle.pf_model.specs.Conditions.{first_failing};
-ghost use Rattle.pf_edges.specs.Table.{AreInRange, Shows};
+ghost use Rattle.pf_edges.specs.Table.{ArePlacesInRange, Shows};
 ghost use Rattle.pf_edges.specs.Kept.{IsKept};
 ghost use Rattle.pf_rules.specs.Change.{IsChange};
 ghost use Rattle.pf_model.specs.Ends.{gone_end, first_end, second_end};
@@ -19,7 +19,7 @@ use pf_rules::scratch::Scratch;
 
 /// The first condition that an operation fails.
 pub fn condition(table: &EdgeTable, bands: &[Band], chunk: u16, op: Op) -> Option<Cond>
-    requires { AreInRange table.now.nodes.items }
+    requires { ArePlacesInRange table.now.nodes.items }
     ensures { (m : Undivided) → IsConforming m → Shows table.now.sides table.now.nodes.items m → m.bands ≡ bands.now → result ≡ first_failing m chunk op }
 {
     match op {
@@ -42,7 +42,7 @@ pub fn plan(
     op: Op,
     scratch: &mut Scratch,
 ) -> Option<Cond>
-    requires { AreInRange table.now.nodes.items }
+    requires { ArePlacesInRange table.now.nodes.items }
     ensures cond { (m : Undivided) → IsKept table.now.sides table.now.nodes.items m → m.bands ≡ bands.now → result ≡ first_failing m chunk op }
     ensures change { (m : Undivided) → IsKept table.now.sides table.now.nodes.items m → result ≡ None
         → IsChange m n op scratch.new.change.removed.items scratch.new.change.new.items }

@@ -4,9 +4,9 @@ ghost use Rattle.pf_model.specs.Mesh.{Undivided, is_edge};
 ghost use Rattle.pf_model.specs.Conforming.{IsConforming};
 ghost use Rattle.pf_model.specs.Stars.{spokes_of};
 ghost use Rattle.pf_model.specs.Limits.{most_spokes};
-ghost use Rattle.pf_edges.specs.Table.{AreInRange, Shows, side_at, triangles_at};
+ghost use Rattle.pf_edges.specs.Table.{ArePlacesInRange, Shows, side_at, triangles_at};
 ghost use Rattle.pf_rules.specs.EdgeSides.{AreEdgeSides};
-ghost use Rattle.pf_rules.specs.Star.{IsSpokeOn, IsSpokeBefore, IsChain, IsChainToLeft, IsTurned, IsFan};
+ghost use Rattle.pf_rules.specs.Star.{IsSpokeOn, IsSpokeBefore, IsChain, IsChainToLeft, IsWholeTurn, IsFan};
 ghost use Rattle.pf_spokes.specs.Spokes.{HasSpots};
 
 use pf_edges::table::EdgeTable;
@@ -25,7 +25,7 @@ struct Ends {
 pub fn spoke_with(table: &EdgeTable, right: u32, side: Option<Side>) -> Option<Spoke>
     ensures found { (m : Undivided) (u : ℕ) → IsConforming m → Shows table.now.sides table.now.nodes.items m
         → side ≡ side_at table.now.sides u right → IsSpokeOn (spokes_of m u) right result }
-    ensures spots { AreInRange table.now.nodes.items → IfSome result HasSpots }
+    ensures spots { ArePlacesInRange table.now.nodes.items → IfSome result HasSpots }
 {
     match side {
         Some(side) => Some(Spoke {
@@ -43,7 +43,7 @@ pub fn spoke_with(table: &EdgeTable, right: u32, side: Option<Side>) -> Option<S
 fn spoke_before(table: &EdgeTable, left: u32, side: Option<Side>) -> Option<Spoke>
     ensures found { (m : Undivided) (u : ℕ) → IsConforming m → Shows table.now.sides table.now.nodes.items m
         → side ≡ side_at table.now.sides left u → IsSpokeBefore (spokes_of m u) left result }
-    ensures spots { AreInRange table.now.nodes.items → IfSome result HasSpots }
+    ensures spots { ArePlacesInRange table.now.nodes.items → IfSome result HasSpots }
 {
     match side {
         Some(side) => Some(Spoke {
@@ -62,7 +62,7 @@ fn put_edge_sides(table: &EdgeTable, v: u32, edge_sides: EdgeSides, found: &mut 
     requires { found.old.items ≡ [] }
     ensures found { (m : Undivided) (u : ℕ) → IsConforming m → Shows table.now.sides table.now.nodes.items m → AreEdgeSides m.tris u v edge_sides
         → is_edge m.tris u v ≡ true → IsChain (spokes_of m u) found.new.items result.first result.last }
-    ensures spots { AreInRange table.now.nodes.items → All HasSpots found.new.items }
+    ensures spots { ArePlacesInRange table.now.nodes.items → All HasSpots found.new.items }
 {
     let before = spoke_before(table, v, edge_sides.right);
     let Some(on) = spoke_with(table, v, edge_sides.left) else {
@@ -95,7 +95,7 @@ fn turn_left(table: &EdgeTable, u: u32, ends: Ends, most: usize, found: &mut Spo
     requires { most ≤ most_spokes }
     ensures found { (m : Undivided) → IsConforming m → Shows table.now.sides table.now.nodes.items m → length (spokes_of m u) ≡ most
         → IsChain (spokes_of m u) found.old.items ends.first ends.last → IsChainToLeft (spokes_of m u) found.new.items result.first result.last }
-    ensures spots { AreInRange table.now.nodes.items → All HasSpots found.old.items → All HasSpots found.new.items }
+    ensures spots { ArePlacesInRange table.now.nodes.items → All HasSpots found.old.items → All HasSpots found.new.items }
 {
     let Ends { first, last } = ends;
     let mut right = last;
@@ -114,8 +114,8 @@ fn turn_left(table: &EdgeTable, u: u32, ends: Ends, most: usize, found: &mut Spo
 fn turn_right(table: &EdgeTable, u: u32, ends: Ends, most: usize, found: &mut Spokes)
     requires { most ≤ most_spokes }
     ensures found { (m : Undivided) → IsConforming m → Shows table.now.sides table.now.nodes.items m → length (spokes_of m u) ≡ most
-        → IsChainToLeft (spokes_of m u) found.old.items ends.first ends.last → IsTurned (spokes_of m u) found.new.items }
-    ensures spots { AreInRange table.now.nodes.items → All HasSpots found.old.items → All HasSpots found.new.items }
+        → IsChainToLeft (spokes_of m u) found.old.items ends.first ends.last → IsWholeTurn (spokes_of m u) found.new.items }
+    ensures spots { ArePlacesInRange table.now.nodes.items → All HasSpots found.old.items → All HasSpots found.new.items }
 {
     let Ends { first, last } = ends;
     let mut left = first;
@@ -136,7 +136,7 @@ pub fn find_fan(table: &EdgeTable, u: u32, v: u32, edge_sides: EdgeSides, star: 
     requires narrow { triangles_at table.now.nodes.items u ≤ most_spokes }
     ensures found { (m : Undivided) → IsConforming m → Shows table.now.sides table.now.nodes.items m → AreEdgeSides m.tris u v edge_sides
         → is_edge m.tris u v ≡ true → IsFan (spokes_of m u) result star.new.items }
-    ensures spots { AreInRange table.now.nodes.items → All HasSpots star.new.items }
+    ensures spots { ArePlacesInRange table.now.nodes.items → All HasSpots star.new.items }
 {
     let most = table.triangles(u) as usize;
     star.clear();

@@ -16,7 +16,7 @@ ghost use Rattle.pf_locks.specs.Turned.{rotated};
 ghost use Rattle.pf_locks.specs.Lists.{names_in, list_in, lent_in, slots_of};
 ghost use Rattle.pf_locks.specs.Seats.{IsSeat, KeepsLists, PutsList, DropsList, TellsTry, TellsAlone, IsAskable, TellsNote, TellsCount, TellsCommit, NotesCount, HoldsLive, IsTaken, IsSameBeside, IsLeastSpare, TellsSplit};
 
-use crate::kept::{Kept, place_of, put_list, take_list};
+use crate::kept::{Kept, index_of, put_list, take_list};
 use crate::rule::{About, Born, Both, Commit, Free, Look, Note, Part, Refuse, Sound, Start, Try};
 use crate::seat::{BoardSeat, least_spare, only, put_flag, set_too};
 use atomic_table::{Seat, Table};
@@ -367,7 +367,7 @@ impl Board {
         ensures kept { IsTaken n s.old s.new }
         ensures same { IsSameBeside s.old s.new }
     {
-        let at = place_of(&s.kept, n);
+        let at = index_of(&s.kept, n);
         let list = take_list(&mut s.kept, at);
         turn_slots(&mut s.seat, at);
         self.exchange(&mut s.seat, n as usize, list);

@@ -18,7 +18,7 @@ pub struct Kept {
 }
 
 // The place of the first of these that is the node's.
-pub fn place_of(kept: &[Kept], n: u32) -> usize
+pub fn index_of(kept: &[Kept], n: u32) -> usize
     ensures { result ≡ first_place kept.now n }
 {
     let mut at: usize = 0;
@@ -75,7 +75,7 @@ pub fn put_list(kept: &mut Vec<Kept>, n: u32, list: Sharers) -> Sharers
     ensures items { kept.new.items ≡ slice_set kept.old.items (first_place kept.old.items n) (record { node = n; list = list; lent = false }) }
     ensures room { vec_capacity kept.new ≡ vec_capacity kept.old }
 {
-    let at = place_of(kept, n);
+    let at = index_of(kept, n);
     let before = mem::replace(
         &mut kept[at],
         Kept {

@@ -16,7 +16,7 @@ use Rattle.pf_model.proofs.Exchange.{bool_cases}
 use Rattle.pf_model.proofs.Spokes.{rising-different}
 use Rattle.pf_star_model.proofs.Shown.{point_of-name}
 use Rattle.pf_edges.specs.declared.table.Node.{Node}
-use Rattle.pf_edges.specs.Table.{Sides, place_at, HasSamePlaces, IsWithin, ShowsTriangles}
+use Rattle.pf_edges.specs.Table.{Sides, place_at, HasSamePlaces, HasNamedCorners, ShowsTriangles}
 use Rattle.pf_edges.specs.Kept.{IsKept}
 use Rattle.pf_apply.proofs.MeshLemmas.{all-within, shows-from}
 use Rattle.pf_sweep.specs.Points.{ArePoints, origin}
@@ -44,7 +44,7 @@ pub mesh-sound : (m : Undivided) → IsConforming m → AreSound m.tris
 mesh-sound m ok = record { turned = λ t h. (let p = ok.proper t h in record { least = p.least; least' = p.least'; apart = p.apart }); once = once-from m.tris (rising-different m.tris ok.tris_rise); edges_once = ok.edges_once }
 
 -- the corners are names of the table
-pub mesh-within : (nodes : List Node) (names : ℕ) (m : Undivided) → IsConforming m → names ≡ length nodes → All (λ s. s.name < names) m.sites → All (IsWithin nodes) m.tris
+pub mesh-within : (nodes : List Node) (names : ℕ) (m : Undivided) → IsConforming m → names ≡ length nodes → All (λ s. s.name < names) m.sites → All (HasNamedCorners nodes) m.tris
 mesh-within nodes names m ok e named = all-within nodes m ok live m.tris (λ t h. h)
   where
     live : (n : ℕ) → IsLive m n → n < length nodes
@@ -60,5 +60,5 @@ table-keeps sides nodes points m ok p all places s =
     }
 
 -- the names of a table stay
-pub still-within : (old new : List Node) (t : Tri) → HasSamePlaces old new → IsWithin old t → IsWithin new t
+pub still-within : (old new : List Node) (t : Tri) → HasSamePlaces old new → HasNamedCorners old t → HasNamedCorners new t
 still-within old new t s w = let n = s.names in let a = w.first in let b = w.second in let d = w.third in record { first = omega (arith, n, a); second = omega (arith, n, b); third = omega (arith, n, d) }

@@ -5,7 +5,7 @@ ghost use Rattle.pf_model.specs.Exchange.{AreSound};
 ghost use Rattle.pf_model.specs.Mesh.{Undivided};
 ghost use Rattle.pf_model.specs.Conforming.{IsConforming};
 ghost use Rattle.pf_edges.specs.Kept.{IsKept};
-ghost use Rattle.pf_edges.specs.Table.{ShowsTriangles, HasSamePlaces, IsWithin};
+ghost use Rattle.pf_edges.specs.Table.{ShowsTriangles, HasSamePlaces, HasNamedCorners};
 ghost use Rattle.pf_sweep.specs.Lists.{AreLists};
 
 use pf_edges::table::EdgeTable;
@@ -18,7 +18,7 @@ use std::alloc::Global;
 fn enter_listed(table: &mut EdgeTable, tris: &[Tri])
     requires empty { ShowsTriangles table.old.sides table.old.nodes.items [] }
     requires sound { AreSound tris.now }
-    requires within { All (IsWithin table.old.nodes.items) tris.now }
+    requires within { All (HasNamedCorners table.old.nodes.items) tris.now }
     requires room { 3 * length tris.now ≤ spare table.old.sides }
     ensures shows { ShowsTriangles table.new.sides table.new.nodes.items tris.now }
     ensures places { HasSamePlaces table.old.nodes.items table.new.nodes.items }

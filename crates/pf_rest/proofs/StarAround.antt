@@ -16,7 +16,7 @@ use Rattle.pf_model.proofs.Fans.{IsSimple, left_after-some}
 use Rattle.pf_model.proofs.Spokes.{spokes-simple}
 use Rattle.pf_edge_list.specs.declared.edges.Sided.{Sided}
 use Rattle.pf_edge_list.specs.Edges.{IsSided}
-use Rattle.pf_rules.specs.Star.{ArePart, IsChain}
+use Rattle.pf_rules.specs.Star.{AreSomeOf, IsChain}
 use Rattle.pf_edges.specs.Table.{Sides, side_at}
 use Rattle.pf_rest.specs.Around.{IsWalked}
 use Rattle.pf_rules.proofs.StarLists.{spoke_order}
@@ -54,7 +54,7 @@ rising-after xs s blank right some below up e = rising-push xs s up (all-below x
         (subst (λ n. nat_lt (get_or xs (length xs - 1) blank).right n ≡ true) (sym e) below)
 
 -- none of the spokes
-pub part-nil : (spokes : List Spoke) → ArePart spokes []
+pub part-nil : (spokes : List Spoke) → AreSomeOf spokes []
 part-nil spokes = record { rise = rising-nil spoke_lt; within = λ z h. absurd (nowhere z h) }
 
 -- the sides of an edge, from one of its ends
@@ -97,5 +97,5 @@ module _ (m : Undivided) (ok : IsConforming m) (u : ℕ) where
   walked-all star n first last e t k = all-fan (spokes_of m u) simple (spokes-rise m ok u) t.found first last t.chain (subst (λ l. length l ≤ length t.found) e (let q = t.met in omega arith))
 
   -- as many as there are
-  pub part-all : (found : List Spoke) → ArePart (spokes_of m u) found → length (spokes_of m u) ≡ length found → found ≡ spokes_of m u
+  pub part-all : (found : List Spoke) → AreSomeOf (spokes_of m u) found → length (spokes_of m u) ≡ length found → found ≡ spokes_of m u
   part-all found p e = all-found (spokes_of m u) simple (spokes-rise m ok u) found p (omega arith)

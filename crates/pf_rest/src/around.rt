@@ -7,9 +7,9 @@ ghost use Rattle.pf_model.specs.Conforming.{IsConforming};
 ghost use Rattle.pf_model.specs.Stars.{is_one_fan, left_after, spoke_lt, spokes_of};
 ghost use Rattle.pf_rules.specs.Contract.{IsStar};
 ghost use Rattle.pf_edge_list.specs.Edges.{IsListed, IsSided};
-ghost use Rattle.pf_rules.specs.Star.{ArePart};
+ghost use Rattle.pf_rules.specs.Star.{AreSomeOf};
 ghost use Rattle.pf_spokes.specs.Spokes.{HasSpots};
-ghost use Rattle.pf_edges.specs.Table.{AreInRange, Shows, Sides, side_at};
+ghost use Rattle.pf_edges.specs.Table.{ArePlacesInRange, Shows, Sides, side_at};
 
 use arrayvec::ArrayVec;
 use pf_edge_list::edges::{Edges, Sided};
@@ -130,7 +130,7 @@ fn is_after(spokes: &[Spoke], right: u32) -> bool
 
 // Appends a spoke, where it stands after all of these and there is room.
 fn push_after(star: &mut Spokes, spoke: Spoke)
-    ensures part { (spokes : List Spoke) → ArePart spokes star.old.items → Contains spokes spoke → ArePart spokes star.new.items }
+    ensures part { (spokes : List Spoke) → AreSomeOf spokes star.old.items → Contains spokes spoke → AreSomeOf spokes star.new.items }
     ensures spots { HasSpots spoke → All HasSpots star.old.items → All HasSpots star.new.items }
 {
     if star.len() < 60 && is_after(star.as_slice(), spoke.right) {
@@ -188,8 +188,8 @@ fn is_round(star: &[Spoke]) -> bool
 // Appends the triangle at a node with this right, which stands at the side, where it stands after the others.
 fn gather_arm(table: &EdgeTable, right: u32, side: Option<Side>, star: &mut Spokes)
     ensures part { (m : Undivided) (u : ℕ) → IsConforming m → Shows table.now.sides table.now.nodes.items m
-        → side ≡ side_at table.now.sides u right → ArePart (spokes_of m u) star.old.items → ArePart (spokes_of m u) star.new.items }
-    ensures spots { AreInRange table.now.nodes.items → All HasSpots star.old.items → All HasSpots star.new.items }
+        → side ≡ side_at table.now.sides u right → AreSomeOf (spokes_of m u) star.old.items → AreSomeOf (spokes_of m u) star.new.items }
+    ensures spots { ArePlacesInRange table.now.nodes.items → All HasSpots star.old.items → All HasSpots star.new.items }
 {
     if let Some(spoke) = spoke_with(table, right, side) {
         push_after(star, spoke);
@@ -207,8 +207,8 @@ fn gather_lower(
 )
     requires { All (IsListed table.now.sides) edges.now.list.items }
     ensures part { (m : Undivided) → IsConforming m → Shows table.now.sides table.now.nodes.items m
-        → ArePart (spokes_of m u) star.old.items → ArePart (spokes_of m u) star.new.items }
-    ensures spots { AreInRange table.now.nodes.items → All HasSpots star.old.items → All HasSpots star.new.items }
+        → AreSomeOf (spokes_of m u) star.old.items → AreSomeOf (spokes_of m u) star.new.items }
+    ensures spots { ArePlacesInRange table.now.nodes.items → All HasSpots star.old.items → All HasSpots star.new.items }
 {
     let mut place = entry(&chains.firsts, u as usize);
     'chain: for _ in 0..120 {
@@ -228,8 +228,8 @@ fn gather_lower(
 fn gather_higher(table: &EdgeTable, edges: &Edges, u: u32, star: &mut Spokes, arms: &mut Arms)
     requires { All (IsListed table.now.sides) edges.now.list.items }
     ensures part { (m : Undivided) → IsConforming m → Shows table.now.sides table.now.nodes.items m
-        → ArePart (spokes_of m u) star.old.items → ArePart (spokes_of m u) star.new.items }
-    ensures spots { AreInRange table.now.nodes.items → All HasSpots star.old.items → All HasSpots star.new.items }
+        → AreSomeOf (spokes_of m u) star.old.items → AreSomeOf (spokes_of m u) star.new.items }
+    ensures spots { ArePlacesInRange table.now.nodes.items → All HasSpots star.old.items → All HasSpots star.new.items }
 {
     'row: for place in entry(&edges.starts, u as usize)..edges.list.len() {
         let Some(e) = edge_at(&edges.list, place) else {
@@ -255,7 +255,7 @@ pub fn gather_star(
 ) -> bool
     requires listed { All (IsListed table.now.sides) edges.now.list.items }
     ensures found { (m : Undivided) → IsConforming m → Shows table.now.sides table.now.nodes.items m → result ≡ true → IsStar m u star.new.items }
-    ensures spots { AreInRange table.now.nodes.items → All HasSpots star.new.items }
+    ensures spots { ArePlacesInRange table.now.nodes.items → All HasSpots star.new.items }
 {
     star.clear();
     arms.clear();

@@ -5,7 +5,7 @@ ghost use Rattle.pf_model.specs.Mesh.{Undivided};
 ghost use Rattle.pf_model.specs.declared.Spoke.{Spoke};
 ghost use Rattle.pf_rules.specs.Contract.{AreAround, AreClose};
 ghost use Rattle.pf_rest.specs.Rest.{IsLimit, is_reached};
-ghost use Rattle.pf_edges.specs.Table.{AreInRange, Shows};
+ghost use Rattle.pf_edges.specs.Table.{ArePlacesInRange, Shows};
 
 use pf_edges::table::EdgeTable;
 use pf_geom::{Point, len2};
@@ -35,7 +35,7 @@ fn is_within(a: Point, b: Point, limit: i64) -> bool
 /// Whether four times the squared distance of `u` from each of these nodes is at most the limit. Then two of
 /// them are no further apart than it allows, by the parallelogram law.
 pub fn are_close(table: &EdgeTable, u: u32, names: &[u32], limit: i64) -> bool
-    requires { AreInRange table.now.nodes.items }
+    requires { ArePlacesInRange table.now.nodes.items }
     ensures { (m : Undivided) (us : List Spoke) → Shows table.now.sides table.now.nodes.items m → IsLimit m.bands limit → AreAround us names.now
         → result ≡ true → AreClose m us }
 {

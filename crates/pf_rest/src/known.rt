@@ -7,7 +7,7 @@ ghost use Rattle.pf_model.specs.Wishes.{terminal_of};
 ghost use Rattle.pf_edge_list.specs.declared.edges.Sided.{Sided};
 ghost use Rattle.pf_edge_list.specs.Edges.{sided_edge, IsSided, IsListed, IsLocated};
 ghost use Rattle.pf_rest.specs.Rest.{AreAtEnds, IsEnd, IsFinite, LeadTo};
-ghost use Rattle.pf_edges.specs.Table.{AreInRange, Shows, Sides};
+ghost use Rattle.pf_edges.specs.Table.{ArePlacesInRange, Shows, Sides};
 
 use crate::lines::acting_chunk;
 use crate::walks::next_longer;
@@ -89,7 +89,7 @@ fn push_place(way: &mut Vec<usize>, at: Located) -> Result<(), NoMemory>
 
 // The end of a walk at this edge.
 fn end_at(table: &EdgeTable, bands: &[Band], e: Sided) -> End
-    requires { AreInRange table.now.nodes.items }
+    requires { ArePlacesInRange table.now.nodes.items }
     ensures { (m : Undivided) → IsConforming m → Shows table.now.sides table.now.nodes.items m → m.bands ≡ bands.now → IsSided table.now.sides e
         → IsEnd m (sided_edge e) result }
 {
@@ -111,7 +111,7 @@ fn end_from(
     way: &mut Vec<usize>,
     e: Located,
 ) -> Result<End, NoMemory>
-    requires in_range { AreInRange table.now.nodes.items }
+    requires in_range { ArePlacesInRange table.now.nodes.items }
     requires listed { All (IsListed table.now.sides) edges.now.list.items }
     requires located { IsLocated table.now.sides edges.now.list.items (sided_edge e.edge) e }
     requires empty { way.old.items ≡ [] }
@@ -146,7 +146,7 @@ pub fn follow(
     way: &mut Vec<usize>,
     place: usize,
 ) -> Result<End, NoMemory>
-    requires in_range { AreInRange table.now.nodes.items }
+    requires in_range { ArePlacesInRange table.now.nodes.items }
     requires listed { All (IsListed table.now.sides) edges.now.list.items }
     requires place { place < length edges.now.list.items }
     ensures end { IfOk result (λ end. (m : Undivided) (e : Sided) → IsConforming m → Shows table.now.sides table.now.nodes.items m → m.bands ≡ bands.now

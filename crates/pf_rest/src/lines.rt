@@ -10,7 +10,7 @@ ghost use Rattle.pf_rules.specs.Lengths.{span_value};
 ghost use Rattle.pf_edge_list.specs.declared.edges.Sided.{Sided};
 ghost use Rattle.pf_rest.specs.Rest.{AreAtEnds, IsEnd, listed};
 ghost use Rattle.pf_edge_list.specs.Edges.{AreEdges, AreSided, IsListed, IsSided, sided_edge};
-ghost use Rattle.pf_edges.specs.Table.{AreInRange, Shows};
+ghost use Rattle.pf_edges.specs.Table.{ArePlacesInRange, Shows};
 
 use crate::around::Around;
 use crate::known::{End, follow};
@@ -67,7 +67,7 @@ pub fn acting_chunk(table: &EdgeTable, e: Sided) -> u16
 // Whether an edge's flip passes. Its acting chunk owns a triangle at it, so the conditions of a flip alone
 // decide.
 fn can_flip(table: &EdgeTable, e: Sided) -> bool
-    requires { AreInRange table.now.nodes.items }
+    requires { ArePlacesInRange table.now.nodes.items }
     ensures { (m : Undivided) → IsConforming m → Shows table.now.sides table.now.nodes.items m → IsListed table.now.sides e
         → result ≡ is_none (first_failing m (acting_chunk m (sided_edge e)) (Flip e.span.lo e.span.hi)) }
 {
@@ -76,7 +76,7 @@ fn can_flip(table: &EdgeTable, e: Sided) -> bool
 
 // The line of an edge whose flip passes.
 fn flip_line(table: &EdgeTable, e: Sided) -> Option<RestLine>
-    requires { AreInRange table.now.nodes.items }
+    requires { ArePlacesInRange table.now.nodes.items }
     ensures { (m : Undivided) → IsConforming m → Shows table.now.sides table.now.nodes.items m → IsListed table.now.sides e
         → listed result ≡ flip_lines m (sided_edge e) }
 {
@@ -99,7 +99,7 @@ fn push_long_at(
     way: &mut Vec<usize>,
     place: usize,
 ) -> Result<(), NoMemory>
-    requires in_range { AreInRange table.now.nodes.items }
+    requires in_range { ArePlacesInRange table.now.nodes.items }
     requires listed { All (IsListed table.now.sides) edges.now.list.items }
     requires place { place < length edges.now.list.items }
     ensures line { OnOk result ((m : Undivided) (e : Sided) → IsConforming m → Shows table.now.sides table.now.nodes.items m → m.bands ≡ bands.now
@@ -125,7 +125,7 @@ fn push_long(
     bands: &[Band],
     edges: &Edges,
 ) -> Result<(), NoMemory>
-    requires in_range { AreInRange table.now.nodes.items }
+    requires in_range { ArePlacesInRange table.now.nodes.items }
     requires listed { All (IsListed table.now.sides) edges.now.list.items }
     ensures { OnOk result ((m : Undivided) → IsConforming m → Shows table.now.sides table.now.nodes.items m → m.bands ≡ bands.now
         → lines.new.items ≡ lines.old.items ++ flat_map (long_lines m) (map sided_edge edges.now.list.items)) }
@@ -146,7 +146,7 @@ fn push_short(
     bands: &[Band],
     edges: &Edges,
 ) -> Result<(), NoMemory>
-    requires in_range { AreInRange table.now.nodes.items }
+    requires in_range { ArePlacesInRange table.now.nodes.items }
     requires listed { All (IsListed table.now.sides) edges.now.list.items }
     ensures { OnOk result ((m : Undivided) → IsConforming m → Shows table.now.sides table.now.nodes.items m → m.bands ≡ bands.now → AreEdges m edges.now
         → lines.new.items ≡ lines.old.items ++ flat_map (short_lines m) (map sided_edge edges.now.list.items)) }
@@ -170,7 +170,7 @@ fn push_short(
 
 // Appends the lines of the edges whose flip passes.
 fn push_flips(table: &EdgeTable, lines: &mut Vec<RestLine>, edges: &[Sided]) -> Result<(), NoMemory>
-    requires in_range { AreInRange table.now.nodes.items }
+    requires in_range { ArePlacesInRange table.now.nodes.items }
     requires listed { All (IsListed table.now.sides) edges.now }
     ensures { OnOk result ((m : Undivided) → IsConforming m → Shows table.now.sides table.now.nodes.items m
         → lines.new.items ≡ lines.old.items ++ flat_map (flip_lines m) (map sided_edge edges.now)) }
@@ -188,7 +188,7 @@ pub fn rest(
     tris: &[Tri],
     bands: &[Band],
 ) -> Result<Vec<RestLine>, NoMemory>
-    requires in_range { AreInRange table.now.nodes.items }
+    requires in_range { ArePlacesInRange table.now.nodes.items }
     requires sided { AreSided table.now.sides tris.now }
     ensures { IfOk result (λ lines. (m : Undivided) → IsConforming m → Shows table.now.sides table.now.nodes.items m
         → m.tris ≡ tris.now → m.bands ≡ bands.now → lines.items ≡ rest_of m) }

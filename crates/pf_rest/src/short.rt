@@ -14,7 +14,7 @@ ghost use Rattle.pf_edge_list.specs.Edges.{sided_edge, AreEdges, IsSided, IsList
 ghost use Rattle.pf_rest.specs.Rest.{told_of, onto_hi, onto_lo, AreNotes};
 ghost use Rattle.pf_rules.specs.Lengths.{span_value};
 ghost use Rattle.pf_spokes.specs.Spokes.{HasSpots};
-ghost use Rattle.pf_edges.specs.Table.{AreInRange, Shows, Sides, side_at};
+ghost use Rattle.pf_edges.specs.Table.{ArePlacesInRange, Shows, Sides, side_at};
 
 use crate::around::{Around, gather_star};
 use crate::close::are_close;
@@ -72,7 +72,7 @@ fn short_line(e: Span, onto_b: Option<Cond>, onto_a: Option<Cond>) -> RestLine
 
 // Whether an edge is shorter than its band allows.
 fn is_short(table: &EdgeTable, bands: &[Band], e: Span) -> bool
-    requires { AreInRange table.now.nodes.items }
+    requires { ArePlacesInRange table.now.nodes.items }
     ensures { (m : Undivided) → Shows table.now.sides table.now.nodes.items m → m.bands ≡ bands.now → result ≡ is_short m e.lo e.hi }
 {
     let least = least_length(table, bands, e.lo, e.hi);
@@ -93,7 +93,7 @@ fn onto_condition(
     crossed: bool,
     lists: &StarLists,
 ) -> Option<Cond>
-    requires in_range { AreInRange table.now.nodes.items }
+    requires in_range { ArePlacesInRange table.now.nodes.items }
     requires sided { IsSided table.now.sides e }
     requires spots { All HasSpots lists.now.star.items }
     ensures { (m : Undivided) → IsConforming m → Shows table.now.sides table.now.nodes.items m → m.bands ≡ bands.now → sided_edge e ≡ edge_of u v
@@ -124,7 +124,7 @@ fn note_onto(
     crossed: bool,
     lists: &StarLists,
 )
-    requires in_range { AreInRange table.now.nodes.items }
+    requires in_range { ArePlacesInRange table.now.nodes.items }
     requires listed { All (IsListed table.now.sides) edges.now.list.items }
     requires spots { All HasSpots lists.now.star.items }
     ensures { (m : Undivided) → IsConforming m → Shows table.now.sides table.now.nodes.items m → m.bands ≡ bands.now
@@ -156,7 +156,7 @@ fn note_each(
     places: &[usize],
     lists: &StarLists,
 )
-    requires in_range { AreInRange table.now.nodes.items }
+    requires in_range { ArePlacesInRange table.now.nodes.items }
     requires listed { All (IsListed table.now.sides) edges.now.list.items }
     requires spots { All HasSpots lists.now.star.items }
     ensures { (m : Undivided) → IsConforming m → Shows table.now.sides table.now.nodes.items m → m.bands ≡ bands.now
@@ -181,7 +181,7 @@ fn note_all(
     u: u32,
     around: &mut Around,
 )
-    requires in_range { AreInRange table.now.nodes.items }
+    requires in_range { ArePlacesInRange table.now.nodes.items }
     requires listed { All (IsListed table.now.sides) edges.now.list.items }
     ensures { (m : Undivided) → IsConforming m → Shows table.now.sides table.now.nodes.items m → m.bands ≡ bands.now → AreEdges m edges.now
         → AreNotes m edges.now.list.items notes.old → AreNotes m edges.now.list.items notes.new }
@@ -203,7 +203,7 @@ fn onto_hi(
     around: &mut Around,
     place: usize,
 ) -> Option<Cond>
-    requires in_range { AreInRange table.now.nodes.items }
+    requires in_range { ArePlacesInRange table.now.nodes.items }
     requires listed { All (IsListed table.now.sides) edges.now.list.items }
     requires place { place < length edges.now.list.items }
     ensures cond { (m : Undivided) (e : Sided) → IsConforming m → Shows table.now.sides table.now.nodes.items m → m.bands ≡ bands.now → AreEdges m edges.now
@@ -239,7 +239,7 @@ fn onto_lo(
     around: &mut Around,
     place: usize,
 ) -> Option<Cond>
-    requires in_range { AreInRange table.now.nodes.items }
+    requires in_range { ArePlacesInRange table.now.nodes.items }
     requires listed { All (IsListed table.now.sides) edges.now.list.items }
     requires place { place < length edges.now.list.items }
     ensures cond { (m : Undivided) (e : Sided) → IsConforming m → Shows table.now.sides table.now.nodes.items m → m.bands ≡ bands.now → AreEdges m edges.now
@@ -277,7 +277,7 @@ pub fn push_short_at(
     around: &mut Around,
     place: usize,
 ) -> Result<(), NoMemory>
-    requires in_range { AreInRange table.now.nodes.items }
+    requires in_range { ArePlacesInRange table.now.nodes.items }
     requires listed { All (IsListed table.now.sides) edges.now.list.items }
     requires place { place < length edges.now.list.items }
     ensures line { OnOk result ((m : Undivided) (e : Sided) → IsConforming m → Shows table.now.sides table.now.nodes.items m → m.bands ≡ bands.now → AreEdges m edges.now

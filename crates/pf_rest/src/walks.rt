@@ -5,7 +5,7 @@ ghost use Rattle.pf_model.specs.Mesh.{Undivided};
 ghost use Rattle.pf_model.specs.Wishes.{longer_on, next_longer};
 ghost use Rattle.pf_rules.specs.Lengths.{span_value};
 ghost use Rattle.pf_edge_list.specs.Edges.{sided_edge, IsSided};
-ghost use Rattle.pf_edges.specs.Table.{AreInRange, Shows};
+ghost use Rattle.pf_edges.specs.Table.{ArePlacesInRange, Shows};
 
 use pf_edge_list::edges::Sided;
 use pf_edges::table::EdgeTable;
@@ -15,7 +15,7 @@ use pf_rules::lengths::Span;
 
 // The longest edge of the triangle on a side of the edge, where it is another one than this edge.
 fn other_longest(table: &EdgeTable, e: Span, side: Option<Side>) -> Option<Span>
-    requires { AreInRange table.now.nodes.items }
+    requires { ArePlacesInRange table.now.nodes.items }
     ensures { (m : Undivided) → Shows table.now.sides table.now.nodes.items m
         → option_map span_value result ≡ longer_on m (span_value e) (side) }
 {
@@ -32,7 +32,7 @@ fn other_longest(table: &EdgeTable, e: Span, side: Option<Side>) -> Option<Span>
 /// Where the walk goes on: to the longest edge of the first triangle that has a longer one, the left one
 /// looked at first.
 pub fn next_longer(table: &EdgeTable, e: Sided) -> Option<Span>
-    requires { AreInRange table.now.nodes.items }
+    requires { ArePlacesInRange table.now.nodes.items }
     ensures { (m : Undivided) → Shows table.now.sides table.now.nodes.items m → IsSided table.now.sides e
         → option_map span_value result ≡ next_longer m (sided_edge e) }
 {

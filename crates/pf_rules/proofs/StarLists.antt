@@ -8,7 +8,7 @@ use Rattle.pf_model.specs.Stars.{spoke_lt}
 use Rattle.pf_model.proofs.Members.{nowhere, here, there, cases, insert_by-old, insert_by-cases}
 use Rattle.pf_model.proofs.RisingLemmas.{IsStrictOrder, rising-head, rising-tail, rising-insert_by}
 use Rattle.pf_model.proofs.Kept.{any-from, any-means}
-use Rattle.pf_rules.specs.Star.{ArePart}
+use Rattle.pf_rules.specs.Star.{AreSomeOf}
 use Rattle.pf_spokes.specs.Spokes.{has_right}
 
 -- a spoke is put before the first that it is below
@@ -63,7 +63,7 @@ rising-new s ss up bare = rising-insert_by spoke_lt spoke_order s ss (λ z h. co
     compare : (a b : ℕ) → a ≢ b → (nat_lt a b ≡ true) ⊎ (nat_lt b a ≡ true)
     compare a b n = grind (arith, nat_tests)
 
-pub part-more : (spokes found : List Spoke) (s : Spoke) → ArePart spokes found → Contains spokes s → has_right s.right found ≡ false → ArePart spokes (insert_by spoke_lt s found)
+pub part-more : (spokes found : List Spoke) (s : Spoke) → AreSomeOf spokes found → Contains spokes s → has_right s.right found ≡ false → AreSomeOf spokes (insert_by spoke_lt s found)
 part-more spokes found s p h bare =
     record {
       rise = rising-new s found p.rise bare;

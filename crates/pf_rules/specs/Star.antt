@@ -23,13 +23,13 @@ pub record IsSpokeBefore (spokes : List Spoke) (n : ℕ) (found : Option Spoke) 
   pub absent : found ≡ None → (s : Spoke) → Contains spokes s → s.left ≡ n → ⊥
 
 -- these are some of the spokes, by rising right
-pub record ArePart (spokes found : List Spoke) : Type 0 where
+pub record AreSomeOf (spokes found : List Spoke) : Type 0 where
   pub rise : IsRising spoke_lt found
   pub within : (s : Spoke) → Contains found s → Contains spokes s
 
 -- these are some of the spokes, one at least. In some order they lie beside each other, from the right `first` to the left `last`
 pub record IsChain (spokes found : List Spoke) (first last : ℕ) : Type 0 where
-  pub part : ArePart spokes found
+  pub part : AreSomeOf spokes found
   pub some : 0 < length found
   pub order : List Spoke
   pub orders : IsOrderOf order found
@@ -41,7 +41,7 @@ pub record IsChainToLeft (spokes found : List Spoke) (first last : ℕ) : Type 0
   pub after : (s : Spoke) → Contains spokes s → s.right ≡ last → has_right s.right found ≡ true
 
 -- so is the spoke that ends where they begin: none is missing that meets one of them
-pub record IsTurned (spokes found : List Spoke) : Type 0 where
+pub record IsWholeTurn (spokes found : List Spoke) : Type 0 where
   pub first : ℕ
   pub last : ℕ
   pub left : IsChainToLeft spokes found first last

@@ -7,7 +7,7 @@ use Rattle.pf_star_model.specs.Lent.{Held, star_held}
 use Rattle.std.proofs.lemmas.List.Elements.{Contains-get_or}
 use Rattle.std.proofs.lemmas.List.Kept.{AllPairs-cons, AllPairs-filter}
 use Rattle.pf_model.proofs.Members.{nowhere, here, there, cases}
-use Rattle.pf_star.specs.Sets.{IsPlace, IsNotAt, AreRising, put_held, held_at, without_held}
+use Rattle.pf_star.specs.Sets.{IsIndexOfPair, IsNotAt, AreRising, put_held, held_at, without_held}
 
 -- a search goes on below the middle
 pub from-middle : (ss : List Held) (n m : ℕ) → AreRising ss → (d : Held) → m < length ss → n ≤ (get_or ss m d).node → (k : ℕ) (e : Held) → m ≤ k → k < length ss → n ≤ (get_or ss k e).node
@@ -51,14 +51,14 @@ without-none n (s ∷ ss) h =
     ∙ ap (λ l. s ∷ l) (without-none n ss (λ r k. h r (there r s ss k)))
 
 -- past the last pair
-pub without-past : (n : ℕ) (ss : List Held) (r : ℕ) → IsPlace n ss r → length ss ≤ r → ss ≡ filter (λ s. not (s.node == n)) ss
+pub without-past : (n : ℕ) (ss : List Held) (r : ℕ) → IsIndexOfPair n ss r → length ss ≤ r → ss ≡ filter (λ s. not (s.node == n)) ss
 without-past n ss r p past = sym (without-none n ss (λ s h. apart s h))
   where
     apart : (s : Held) → Contains ss s → s.node ≢ n
     apart s h = let l : h.0 < r = (let x = h.1 in omega (arith, past, x)) in let b = p.before h.0 s l in let e : (get_or ss h.0 s).node ≡ s.node = ap (λ x. x.node) h.2 in omega (arith, b, e)
 
 -- another node stands there
-pub without-other : (n : ℕ) (ss : List Held) (r : ℕ) (d : Held) → AreRising ss → IsPlace n ss r → r < length ss → (get_or ss r d).node ≢ n → ss ≡ filter (λ s. not (s.node == n)) ss
+pub without-other : (n : ℕ) (ss : List Held) (r : ℕ) (d : Held) → AreRising ss → IsIndexOfPair n ss r → r < length ss → (get_or ss r d).node ≢ n → ss ≡ filter (λ s. not (s.node == n)) ss
 without-other n ss r d up p l other = sym (without-none n ss (λ s h. go s h (three h.0 r)))
   where
     three : (a b : ℕ) → (a < b) ⊎ ((a ≡ b) ⊎ (b < a))
@@ -102,10 +102,10 @@ held-none n (x ∷ xs) h =
       ap (λ b. cond b (Some x) (held_at n xs)) e ∙ r.1,
     )
 
-apart-past : (n : ℕ) (hs : List Held) (r : ℕ) → IsPlace n hs r → length hs ≤ r → (s : Held) → Contains hs s → s.node ≢ n
+apart-past : (n : ℕ) (hs : List Held) (r : ℕ) → IsIndexOfPair n hs r → length hs ≤ r → (s : Held) → Contains hs s → s.node ≢ n
 apart-past n hs r p past s h = let l : h.0 < r = (let x = h.1 in omega (arith, past, x)) in let b = p.before h.0 s l in let e : (get_or hs h.0 s).node ≡ s.node = ap (λ x. x.node) h.2 in omega (arith, b, e)
 
-apart-other : (n : ℕ) (hs : List Held) (r : ℕ) (d : Held) → AreRising hs → IsPlace n hs r → r < length hs → (get_or hs r d).node ≢ n → (s : Held) → Contains hs s → s.node ≢ n
+apart-other : (n : ℕ) (hs : List Held) (r : ℕ) (d : Held) → AreRising hs → IsIndexOfPair n hs r → r < length hs → (get_or hs r d).node ≢ n → (s : Held) → Contains hs s → s.node ≢ n
 apart-other n hs r d up p l other s h = go (three h.0 r)
   where
     three : (a b : ℕ) → (a < b) ⊎ ((a ≡ b) ⊎ (b < a))
@@ -122,10 +122,10 @@ apart-other n hs r d up p l other s h = go (three h.0 r)
         let b : n ≤ (get_or hs r s).node = p.from r s (omega arith) l in
         omega (arith, a, b, e)
 
-pub held-past : (n : ℕ) (hs : List Held) (r : ℕ) → IsPlace n hs r → length hs ≤ r → (star_held hs n ≡ None) × (held_at n hs ≡ None)
+pub held-past : (n : ℕ) (hs : List Held) (r : ℕ) → IsIndexOfPair n hs r → length hs ≤ r → (star_held hs n ≡ None) × (held_at n hs ≡ None)
 held-past n hs r p past = held-none n hs (apart-past n hs r p past)
 
-pub held-other : (n : ℕ) (hs : List Held) (r : ℕ) (d : Held) → AreRising hs → IsPlace n hs r → r < length hs → (get_or hs r d).node ≢ n → (star_held hs n ≡ None) × (held_at n hs ≡ None)
+pub held-other : (n : ℕ) (hs : List Held) (r : ℕ) (d : Held) → AreRising hs → IsIndexOfPair n hs r → r < length hs → (get_or hs r d).node ≢ n → (star_held hs n ≡ None) × (held_at n hs ≡ None)
 held-other n hs r d up p l other = held-none n hs (apart-other n hs r d up p l other)
 
 pub held-found : (n : ℕ) (hs : List Held) (r : ℕ) (d : Held) → AreRising hs → r < length hs → (get_or hs r d).node ≡ n → (star_held hs n ≡ (get_or hs r d).star) × (held_at n hs ≡ Some (get_or hs r d))
@@ -158,7 +158,7 @@ eq_means a b h = grind (arith, nat_tests)
 eq_means_not : (a b : ℕ) → (a == b) ≡ false → a ≢ b
 eq_means_not a b h = grind (arith, nat_tests)
 
-place-rest : (n : ℕ) (h : Held) (hs : List Held) (r : ℕ) → IsPlace n (h ∷ hs) (suc r) → IsPlace n hs r
+place-rest : (n : ℕ) (h : Held) (hs : List Held) (r : ℕ) → IsIndexOfPair n (h ∷ hs) (suc r) → IsIndexOfPair n hs r
 place-rest n h hs r p =
     record {
       within = (let w : suc r ≤ suc (length hs) = p.within in omega (arith, w));
@@ -167,7 +167,7 @@ place-rest n h hs r p =
     }
 
 -- a pair is put in the place of that of its node
-pub put-found : (x : Held) (hs : List Held) (r : ℕ) (d : Held) → IsPlace x.node hs r → r < length hs → (get_or hs r d).node ≡ x.node → slice_set hs r x ≡ put_held x hs
+pub put-found : (x : Held) (hs : List Held) (r : ℕ) (d : Held) → IsIndexOfPair x.node hs r → r < length hs → (get_or hs r d).node ≡ x.node → slice_set hs r x ≡ put_held x hs
 put-found x [] r d p l e = absurd (omega (arith, l))
 put-found x (h ∷ hs) zero d p l e =
     sym (ap (λ b. cond b (x ∷ h ∷ hs) (cond (h.node == x.node) (x ∷ hs) (h ∷ put_held x hs))) (lt_fails x.node h.node (omega (arith, e)))
@@ -179,7 +179,7 @@ put-found x (h ∷ hs) (suc r) d p l e =
     ∙ ap (λ c. cond c (x ∷ hs) (h ∷ put_held x hs)) (not_same h.node x.node (omega (arith, b))))
 
 -- or between the others
-pub put-new : (x : Held) (hs : List Held) (r : ℕ) → IsPlace x.node hs r → (r ≡ length hs) ⊎ ((d : Held) → x.node < (get_or hs r d).node) → insert hs r x ≡ put_held x hs
+pub put-new : (x : Held) (hs : List Held) (r : ℕ) → IsIndexOfPair x.node hs r → (r ≡ length hs) ⊎ ((d : Held) → x.node < (get_or hs r d).node) → insert hs r x ≡ put_held x hs
 put-new x [] r p q = let e : r ≡ 0 = (let w : r ≤ 0 = p.within in omega (arith, w)) in rw e refl
 put-new x (h ∷ hs) zero p (inl e) = absurd (let k : 0 ≡ suc (length hs) = e in omega (arith, k))
 put-new x (h ∷ hs) zero p (inr f) = sym (ap (λ b. cond b (x ∷ h ∷ hs) (cond (h.node == x.node) (x ∷ hs) (h ∷ put_held x hs))) (lt_holds x.node h.node (f x)))
@@ -222,7 +222,7 @@ pub without-rises : (n : ℕ) (hs : List Held) → AreRising hs → AreRising (w
 without-rises n hs up = AllPairs-filter (λ h k. h.node < k.node) (λ h. not (h.node == n)) hs up
 
 -- what is known where the node's pair is looked for at its place
-pub absent-held : (n : ℕ) (hs : List Held) (r : ℕ) → AreRising hs → IsPlace n hs r → IsNotAt n hs r → (s : Held) → Contains hs s → s.node ≢ n
+pub absent-held : (n : ℕ) (hs : List Held) (r : ℕ) → AreRising hs → IsIndexOfPair n hs r → IsNotAt n hs r → (s : Held) → Contains hs s → s.node ≢ n
 absent-held n hs r up p absent s c = go (below r (length hs))
   where
     below : (a b : ℕ) → (a < b) ⊎ (b ≤ a)
@@ -232,13 +232,13 @@ absent-held n hs r up p absent s c = go (below r (length hs))
     go (inl l) = apart-other n hs r s up p l (absent s l) s c
     go (inr l) = apart-past n hs r p l s c
 
-pub none-held : (n : ℕ) (hs : List Held) (r : ℕ) → AreRising hs → IsPlace n hs r → IsNotAt n hs r → (star_held hs n ≡ None) × (held_at n hs ≡ None)
+pub none-held : (n : ℕ) (hs : List Held) (r : ℕ) → AreRising hs → IsIndexOfPair n hs r → IsNotAt n hs r → (star_held hs n ≡ None) × (held_at n hs ≡ None)
 none-held n hs r up p absent = held-none n hs (absent-held n hs r up p absent)
 
-pub all-stay : (n : ℕ) (hs : List Held) (r : ℕ) → AreRising hs → IsPlace n hs r → IsNotAt n hs r → hs ≡ without_held n hs
+pub all-stay : (n : ℕ) (hs : List Held) (r : ℕ) → AreRising hs → IsIndexOfPair n hs r → IsNotAt n hs r → hs ≡ without_held n hs
 all-stay n hs r up p absent = sym (without-none n hs (absent-held n hs r up p absent))
 
-pub put-between : (x : Held) (hs : List Held) (r : ℕ) → IsPlace x.node hs r → IsNotAt x.node hs r → insert hs r x ≡ put_held x hs
+pub put-between : (x : Held) (hs : List Held) (r : ℕ) → IsIndexOfPair x.node hs r → IsNotAt x.node hs r → insert hs r x ≡ put_held x hs
 put-between x hs r p absent = put-new x hs r p (go (below r (length hs)))
   where
     below : (a b : ℕ) → (a < b) ⊎ (b ≤ a)

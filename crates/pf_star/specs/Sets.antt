@@ -8,7 +8,7 @@ abbrev pub AreRising : List Held → Type 0
 AreRising hs = AllPairs (λ h k. h.node < k.node) hs
 
 -- so many pairs have a node below n, and they stand first
-pub record IsPlace (n : ℕ) (hs : List Held) (r : ℕ) : Type 0 where
+pub record IsIndexOfPair (n : ℕ) (hs : List Held) (r : ℕ) : Type 0 where
   pub within : r ≤ length hs
   pub before : (k : ℕ) (d : Held) → k < r → (slice_index_or hs k d).node < n
   pub from : (k : ℕ) (d : Held) → r ≤ k → k < length hs → n ≤ (slice_index_or hs k d).node

@@ -6,7 +6,7 @@ ghost use Rattle.pf_model.specs.Stars.{star_of};
 ghost use Rattle.pf_star_model.specs.Lent.{AgreesOn, Held, is_held, star_held};
 ghost use Rattle.pf_rings.specs.Lending.{star_in};
 ghost use Rattle.pf_sweep.specs.Lists.{AreLists, mesh_by};
-ghost use Rattle.pf_star.specs.Sets.{IsPlace, IsAt, IsNotAt, AreRising, put_held, held_at, pair_of, without_held};
+ghost use Rattle.pf_star.specs.Sets.{IsIndexOfPair, IsAt, IsNotAt, AreRising, put_held, held_at, pair_of, without_held};
 
 use pf_geom::NoMemory;
 use pf_model::{Site, Tri};
@@ -36,7 +36,7 @@ impl Model for StarSet {
 // How many of the pairs have a node below this one.
 fn place(pairs: &[NewStar], n: u32) -> usize
     requires { AreRising pairs.now }
-    ensures { IsPlace n pairs.now result }
+    ensures { IsIndexOfPair n pairs.now result }
 {
     let mut low = 0;
     let mut high = pairs.len();

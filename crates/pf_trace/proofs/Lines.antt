@@ -11,7 +11,7 @@ use Rattle.pf_core_model.specs.declared.event.Verdict.{Verdict}
 use Rattle.pf_core_model.specs.Core.{Opening}
 use Rattle.pf_core_model.specs.State.{CoreState, stepped, opening_state, state_after, verdicts_of, tickets_in, counted, free_part_of}
 use Rattle.pf_core.specs.declared.state.State.{State}
-use Rattle.pf_core.specs.Shown.{Shows, IsShown, IsStep}
+use Rattle.pf_core.specs.Shown.{ShowsState, IsShown, IsStep}
 use Rattle.trace_text.specs.declared.write.Closing.{Closing}
 use Rattle.trace_text.specs.Verdicts.{verdict_words, verdict_lines, closing_lines, closing_of, trace_text}
 
@@ -55,11 +55,11 @@ after-cons o c e es = refl
 -- where the run stands: the state that was reached, and what is left gives the state and the text of all
 pub record StandsAt (o : Opening) (c : CoreState) (events : List Event) (start : List ℕ) (i : ℕ) (s : State) (text : List ℕ) : Type 0 where
   pub now : CoreState
-  pub shows : Shows o now s
+  pub shows : ShowsState o now s
   pub ends : after o now (drop i events) ≡ after o c events
   pub written : text ++ lines_of o now (i + 1) (drop i events) ≡ start ++ lines_of o c 1 events
 
-pub first_stands : (o : Opening) (c : CoreState) (events : List Event) (start : List ℕ) (s : State) → Shows o c s → StandsAt o c events start 0 s start
+pub first_stands : (o : Opening) (c : CoreState) (events : List Event) (start : List ℕ) (s : State) → ShowsState o c s → StandsAt o c events start 0 s start
 first_stands o c events start s shows = record { now = c; shows = shows; ends = refl; written = refl }
 
 module _ (o : Opening) (c : CoreState) (events : List Event) (start : List ℕ) (i : ℕ) (s : State) (text : List ℕ) (at : StandsAt o c events start i s text) where
@@ -81,10 +81,10 @@ module _ (o : Opening) (c : CoreState) (events : List Event) (start : List ℕ) 
       }
 
   -- all took place
-  pub is_done : length events ≤ i → Shows o (after o c events) s × (text ≡ start ++ lines_of o c 1 events)
+  pub is_done : length events ≤ i → ShowsState o (after o c events) s × (text ≡ start ++ lines_of o c 1 events)
   is_done past =
       let e = drop_all i events past in (
-        subst (λ k. Shows o k s) (sym (ap (after o at.now) e ∙ after-nil o at.now) ∙ at.ends) at.shows,
+        subst (λ k. ShowsState o k s) (sym (ap (after o at.now) e ∙ after-nil o at.now) ∙ at.ends) at.shows,
         sym (append-nil text) ∙ (ap (λ t. text ++ t) (sym (ap (lines_of o at.now (i + 1)) e ∙ lines-nil o at.now (i + 1))) ∙ at.written),
       )
 
@@ -92,10 +92,10 @@ module _ (o : Opening) (c : CoreState) (events : List Event) (start : List ℕ) 
 pub record IsRun (before : State) (events : List Event) (start : List ℕ) (i number : ℕ) (s : State) (text : List ℕ) : Type 0 where
   pub counted : number ≡ i
   pub sound : IsShown s
-  pub stands : (o : Opening) (c : CoreState) → Shows o c before → StandsAt o c events start i s text
+  pub stands : (o : Opening) (c : CoreState) → ShowsState o c before → StandsAt o c events start i s text
 
 -- an event leaves a state that shows one of the model
-pub still-shown : (old new : State) (next : Opening → CoreState → CoreState) (P : Opening → CoreState → Type 0) → IsShown old → ((o : Opening) (c : CoreState) → Shows o c old → Shows o (next o c) new × P o c) → IsShown new
+pub still-shown : (old new : State) (next : Opening → CoreState → CoreState) (P : Opening → CoreState → Type 0) → IsShown old → ((o : Opening) (c : CoreState) → ShowsState o c old → ShowsState o (next o c) new × P o c) → IsShown new
 still-shown old new next P h step = record { opening = h.opening; state = next h.opening h.state; shown = (step h.opening h.state h.shown).0 }
 
 -- the lines of all events and those that close the text are the whole

@@ -2,7 +2,7 @@
 ghost use Rattle.std.specs.Prelude.{◌≡◌, ◌≢◌, ◌≤◌, ◌<◌, ℕ, length, Ok, Err, IfOk, IfErr};
 ghost use Rattle.pf_model.specs.Conforming.{IsLive};
 ghost use Rattle.trace_text.specs.Trace.{trace_of, told, AreWithin};
-ghost use Rattle.trace_text.specs.Verdicts.{answer_text, IsAnswered};
+ghost use Rattle.trace_text.specs.Verdicts.{answer_text, HasAnswerText};
 
 use crate::closing::push_end;
 use crate::events::push_events;
@@ -21,7 +21,7 @@ use trace_text::{Trace, TraceErr, read_trace};
 pub fn run_trace(alloc: Global, m: &Mesh, bytes: &[u8]) -> Result<Vec<u8>, TraceErr>
     requires long { length bytes.now ≤ 268435456 }
     requires fresh { (n : ℕ) → IsLive m.now.mesh n → n < m.now.mesh.first_new }
-    ensures answer { IfOk result (λ text. IsAnswered m.now.mesh bytes.now text.items) }
+    ensures answer { IfOk result (λ text. HasAnswerText m.now.mesh bytes.now text.items) }
     ensures first_fault { IfErr result (λ fault. fault ≢ TraceErr.Memory →
         trace_of m.now.mesh.first_new m.now.mesh.chunks bytes.now ≡ Err fault) }
     ensures refused { IfErr (trace_of m.now.mesh.first_new m.now.mesh.chunks bytes.now) (λ fault. result ≡ Err fault) }

@@ -3,7 +3,7 @@ ghost use Rattle.std.specs.Prelude.{◌≡◌, ◌++◌, OnOk};
 ghost use Rattle.pf_model.specs.Texts.{line_text, lines_text};
 ghost use Rattle.pf_core_model.specs.Core.{Opening};
 ghost use Rattle.pf_core_model.specs.State.{CoreState, state_after, verdicts_of};
-ghost use Rattle.pf_core.specs.Shown.{Shows, IsShown};
+ghost use Rattle.pf_core.specs.Shown.{ShowsState, IsShown};
 ghost use Rattle.trace_text.specs.Verdicts.{verdict_words, verdict_lines};
 
 use pf_core::{State, step};
@@ -20,8 +20,8 @@ pub fn push_events(
     events: &[Event],
 ) -> Result<(), NoMemory>
     requires { IsShown state.old }
-    ensures state { (o : Opening) (c : CoreState) → Shows o c state.old → OnOk result (Shows o (state_after o c events.now) state.new) }
-    ensures text { (o : Opening) (c : CoreState) → Shows o c state.old →
+    ensures state { (o : Opening) (c : CoreState) → ShowsState o c state.old → OnOk result (ShowsState o (state_after o c events.now) state.new) }
+    ensures text { (o : Opening) (c : CoreState) → ShowsState o c state.old →
         OnOk result (text.new.items ≡ text.old.items ++ lines_text (verdict_lines 1 events.now (verdicts_of o c events.now))) }
 {
     let mut number: u64 = 0;

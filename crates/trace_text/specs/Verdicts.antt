@@ -62,7 +62,7 @@ abbrev pub answer_text : Undivided → Told → List ℕ
 answer_text m said = trace_text (record { mesh = m; budget = said.budget; workers = said.workers }) said.events
 
 -- the text of a trace over this mesh is answered by this one
-pub record IsAnswered (m : Undivided) (bytes text : List ℕ) : Type 0 where
+pub record HasAnswerText (m : Undivided) (bytes text : List ℕ) : Type 0 where
   pub said : Told
   pub says : trace_of m.first_new m.chunks bytes ≡ Ok said
   pub answer : text ≡ answer_text m said

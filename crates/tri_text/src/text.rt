@@ -41,7 +41,7 @@ pub fn sites_text(alloc: Global, sites: &[Site], base: u32) -> Result<Vec<u8>, A
 }
 
 // The place of a live name among the live names, which rise.
-fn place_of(sites: &[Site], name: u32) -> usize
+fn index_of(sites: &[Site], name: u32) -> usize
     requires { AllPairs (λ r s. r.name < s.name) sites.now }
     ensures { result ≡ place_among sites.now name }
 {
@@ -67,9 +67,9 @@ pub fn tris_text(
     push_number(&mut out, tris.len() as u64, b' ')?;
     out.extend_from_slice(b"3 0\n")?;
     for (place, tri) in tris.iter().enumerate() {
-        let a = base as u64 + place_of(sites, tri.a) as u64;
-        let b = base as u64 + place_of(sites, tri.b) as u64;
-        let c = base as u64 + place_of(sites, tri.c) as u64;
+        let a = base as u64 + index_of(sites, tri.a) as u64;
+        let b = base as u64 + index_of(sites, tri.b) as u64;
+        let c = base as u64 + index_of(sites, tri.c) as u64;
         push_triangle(&mut out, base as u64 + place as u64, a, b, c)?;
     }
     Ok(out)

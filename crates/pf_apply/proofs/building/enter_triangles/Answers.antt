@@ -3,8 +3,8 @@ use Rattle.pf_model.specs.declared.Tri.{Tri}
 use Rattle.pf_model.specs.Clauses.{first_of}
 use Rattle.pf_model.specs.Build.{turned_left, build_clauses}
 use Rattle.pf_model.specs.Exchange.{IsTurned, SharesNoEdge}
-use Rattle.pf_edges.specs.Table.{IsWithin, ShowsTriangles}
-use Rattle.pf_apply.specs.BuildSteps.{earlier_from, ArePart}
+use Rattle.pf_edges.specs.Table.{HasNamedCorners, ShowsTriangles}
+use Rattle.pf_apply.specs.BuildSteps.{earlier_from, AreAccepted}
 use Rattle.pf_edges.proofs.TableSteps.{same_places}
 use Rattle.pf_apply.proofs.BuildList.{earlier-more, listed-more, fault-on, fault-here, accepted-at, shows-cons}
 use Rattle.pf_apply.proofs.building.enter_triangles.Goals as goal
@@ -19,7 +19,7 @@ put-requires-clause-within c =
     let a = accepted-at points (earlier_from points [] (take i tris)) c.loop-corners.tri (get_or tris i []) c.in-Ok.ensures.three inv.6 h.0 in
     let n : length c.loop-corners.table.nodes.items ≡ length points = inv.4.names ∙ c.requires.empty.names in
     let w = a.corners in
-    let P : Tri → Type 0 = λ t. IsWithin c.loop-corners.table.nodes.items t in
+    let P : Tri → Type 0 = λ t. HasNamedCorners c.loop-corners.table.nodes.items t in
     subst P (sym h.1) record { first = omega (arith, w.0, n); second = omega (arith, w.1, n); third = omega (arith, w.2, n) }
 
 pub loop-corners-preserved : goal.loop-corners-preserved
@@ -38,7 +38,7 @@ loop-corners-preserved c =
     let bare = subst S (sym h.1) a.apart_from in
     let shows = shows-cons c.put.new.self.sides c.put.new.self.nodes.items c.in-Ok.t e bare (c.put.ensures.shows e inv.5 (subst T (sym h.1) a.turned) bare) in
     let V : List Tri → Type 0 = λ l. ShowsTriangles c.put.new.self.sides c.put.new.self.nodes.items l in
-    let W : List Tri → Type 0 = λ l. ArePart points l in
+    let W : List Tri → Type 0 = λ l. AreAccepted points l in
     let next : earlier_from points [] (take (i + 1) tris) ≡ t ∷ e = earlier-more points tris i within in
     let pushed : c.push.new.self.items ≡ c.loop-corners.listed.items ++ c.in-Ok.t ∷ [] = rw c.unwrap.ensures at c.push.ensures.items in
     let cap = c.push.ensures.capacity in

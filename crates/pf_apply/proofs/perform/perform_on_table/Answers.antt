@@ -5,7 +5,7 @@ use Rattle.pf_model.specs.Mesh.{tri_lt}
 use Rattle.pf_model.specs.Applied.{op_applied}
 use Rattle.pf_model.proofs.Members.{insert_all_by-new}
 use Rattle.pf_model.specs.Exchange.{CanExchange, exchanged, without_all}
-use Rattle.pf_edges.specs.Table.{IsWithin, ShowsTriangles}
+use Rattle.pf_edges.specs.Table.{HasNamedCorners, ShowsTriangles}
 use Rattle.pf_apply.proofs.MeshLemmas.{live-within, all-within}
 use Rattle.pf_apply.proofs.OperationLemmas.{kept-applied, can-conforms}
 use Rattle.pf_apply.proofs.perform.perform_on_table.Goals as goal
@@ -17,7 +17,7 @@ exchange-requires-clause-removed_within c =
     let h = c.requires.can.change in
     let nodes = c.make_node.new.table.nodes.items in
     let all = all-within nodes m kept.conforming (live-within c.make_node.new.table.sides nodes m kept.shows) c.args.change.now.removed.items (h.fits c.requires.can.can).take.stand in
-    let Q : List Tri → Type 0 = λ ts. All (IsWithin nodes) ts in
+    let Q : List Tri → Type 0 = λ ts. All (HasNamedCorners nodes) ts in
     subst Q (sym c.deref.ensures.0) all
 
 pub exchange-requires-clause-new_within : goal.exchange-requires-clause-new_within
@@ -31,7 +31,7 @@ exchange-requires-clause-new_within c =
     let new = c.args.change.now.new.items in
     let stand : (t : Tri) → Contains new t → Contains after.tris t = λ t i. (let P : List Tri → Type 0 = λ ts. Contains ts t in subst P (h.makes can) (insert_all_by-new tri_lt t new (without_all c.args.change.now.removed.items m.tris) i)) in
     let all = all-within nodes after (can-conforms m c.args.n c.args.op c.requires.can.kept.conforming can) places.within new stand in
-    let Q : List Tri → Type 0 = λ ts. All (IsWithin nodes) ts in
+    let Q : List Tri → Type 0 = λ ts. All (HasNamedCorners nodes) ts in
     subst Q (sym c.deref-2.ensures.0) all
 
 pub returns-clause-applied : goal.returns-clause-applied

@@ -5,7 +5,7 @@ use Rattle.pf_say.specs.declared.place.Place.TheVariants.{Node, Ele, Part}
 use Rattle.pf_say.specs.Shown.{stems_of}
 use Rattle.pf_cmd.specs.Shown.{parted_of}
 use Rattle.pf_cmd.specs.Commands.{divided_in}
-use Rattle.pf_cmd.specs.Input.{◌>>=◌, Parted, parted_in}
+use Rattle.pf_cmd.specs.Input.{◌>>=◌, Partitioned, partitioned_in}
 use Rattle.pf_cmd.proofs.Reading.{explains-then, memory-explains}
 use Rattle.pf_cmd.proofs.input.read_divided.Goals as goal
 
@@ -13,7 +13,7 @@ pub returns-in_err-listed-clause-stop : goal.returns-in_err-listed-clause-stop
 unfolding divided_in
 returns-in_err-listed-clause-stop g c =
     let p = err_from_is_err_and c.from_residual.result c.from_residual.ensures.1 in
-    rw (p.1, p.2) (explains-then (Node ∷ Ele ∷ Part ∷ []) (Node ∷ Ele ∷ Part ∷ []) _ _ _ (parted_in c.args.scale) (λ f parted. Ok (with_tables_of parted.listed.triangles parted.parts.owners parted.parts.chunks parted.listed.mesh.bands parted.listed.mesh)) _ (λ q a. a) c.in_err-listed.ensures.stop)
+    rw (p.1, p.2) (explains-then (Node ∷ Ele ∷ Part ∷ []) (Node ∷ Ele ∷ Part ∷ []) _ _ _ (partitioned_in c.args.scale) (λ f parted. Ok (with_tables_of parted.listed.triangles parted.parts.owners parted.parts.chunks parted.listed.mesh.bands parted.listed.mesh)) _ (λ q a. a) c.in_err-listed.ensures.stop)
 
 pub returns-clause-mesh : goal.returns-clause-mesh
 unfolding divided_in

@@ -5,7 +5,7 @@ use Rattle.pf_say.specs.declared.place.Place.TheVariants.{Node, Ele, Part}
 use Rattle.pf_say.specs.Shown.{stems_of}
 use Rattle.pf_cmd.specs.declared.words.Task.TheVariants.{Check}
 use Rattle.pf_cmd.specs.Shown.{parted_of}
-use Rattle.pf_cmd.specs.Input.{◌>>=◌, parted_in}
+use Rattle.pf_cmd.specs.Input.{◌>>=◌, partitioned_in}
 use Rattle.pf_cmd.specs.Commands.{to_check, input_in, check_given}
 use Rattle.pf_cmd.proofs.Reading.{explains-then, memory-explains}
 use Rattle.pf_cmd.proofs.perform.perform_check.Goals as goal
@@ -15,7 +15,7 @@ returns-in_err-listed-clause-stops g c =
     let p = err_from_is_err_and c.from_residual.result c.from_residual.ensures.1 in
     rw (p.1, p.2)
     (inr (record {
-      explained = explains-then (Node ∷ Ele ∷ Part ∷ []) (Node ∷ Ele ∷ Part ∷ []) _ _ _ (parted_in c.args.scale) (λ f parted. Ok (to_check parted)) _ (λ q a. a) c.in_err-listed.ensures.stop;
+      explained = explains-then (Node ∷ Ele ∷ Part ∷ []) (Node ∷ Ele ∷ Part ∷ []) _ _ _ (partitioned_in c.args.scale) (λ f parted. Ok (to_check parted)) _ (λ q a. a) c.in_err-listed.ensures.stop;
       only_read = c.in_err-listed.ensures.only_read;
     }))
 

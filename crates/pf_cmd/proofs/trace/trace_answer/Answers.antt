@@ -1,19 +1,19 @@
 use Rattle.std.proofs.Common.{◌≡◌, ◌≢◌, [], ◌∷◌, refl, sym, ◌∙◌, ap, Ok, Err, inl, inr}
 use Rattle.std.proofs.lemmas.Result.{err_from_is_err_and}
 use Rattle.trace_text.specs.Trace.{Told, trace_of}
-use Rattle.trace_text.specs.Verdicts.{IsAnswered}
+use Rattle.trace_text.specs.Verdicts.{HasAnswerText}
 use Rattle.pf_say.specs.declared.place.Place.TheVariants.{Node, Ele, Part, Size, Trace}
 use Rattle.pf_say.specs.Shown.{stems_of}
 use Rattle.pf_say.specs.Stop.{memory_stop}
 use Rattle.pf_cmd.specs.Faults.{trace_stop}
-use Rattle.pf_cmd.specs.Input.{Held, ◌>>=◌, Numbered, files_in, without, bytes_in, vertices_in, triangles_in, mesh_in, parts_in, parted_in, bands_in, numbered_in, trace_accepted, said_in}
+use Rattle.pf_cmd.specs.Input.{Held, ◌>>=◌, Numbered, files_in, without, bytes_in, vertices_in, triangles_in, mesh_in, parts_in, partitioned_in, bands_in, numbered_in, trace_accepted, said_in}
 use Rattle.pf_cmd.specs.Commands.{Traced, traced_in}
 use Rattle.pf_cmd.proofs.Reading.{explains-then, explains-later, reads-later, explained, quiet-trans, only_read-trans, trace_stop-inner, trace-refused}
 use Rattle.pf_cmd.proofs.trace.trace_answer.Goals as goal
 
 -- the numbered mesh doesn't depend on the trace
 apart : (scale : _) (f : Held) → numbered_in scale (without Trace f) ≡ numbered_in scale f
-unfolding numbered_in bands_in parted_in parts_in mesh_in vertices_in triangles_in bytes_in
+unfolding numbered_in bands_in partitioned_in parts_in mesh_in vertices_in triangles_in bytes_in
 apart scale f = refl
 
 pub returns-in_err-mesh-clause-stop : goal.returns-in_err-mesh-clause-stop
@@ -63,7 +63,7 @@ returns-in-Ok-clause-traced g c = λ tells.
       answer = answered.answer;
     }
   where
-    answered : IsAnswered c.in_ok-mesh.field-0.mesh.mesh c.in_ok-bytes.bytes.items c.in-Ok.text.items
+    answered : HasAnswerText c.in_ok-mesh.field-0.mesh.mesh c.in_ok-bytes.bytes.items c.in-Ok.text.items
     answered = rw (← c.deref.ensures.value) c.in-Ok.ensures.answer
 
 pub returns-in-Ok-clause-quiet : goal.returns-in-Ok-clause-quiet

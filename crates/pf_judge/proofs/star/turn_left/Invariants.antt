@@ -3,7 +3,7 @@ use Rattle.std.specs.Prelude.{All}
 use Rattle.pf_model.specs.Mesh.{Undivided}
 use Rattle.pf_model.specs.Conforming.{IsConforming}
 use Rattle.pf_model.specs.Stars.{spokes_of}
-use Rattle.pf_edges.specs.Table.{AreInRange, Shows}
+use Rattle.pf_edges.specs.Table.{ArePlacesInRange, Shows}
 use Rattle.pf_rules.specs.Star.{IsChain}
 use Rattle.pf_spokes.specs.Spokes.{HasSpots}
 use Rattle.pf_judge.proofs.star.turn_left.Given as goal
@@ -14,5 +14,5 @@ decreases-turns l = l.most - length l.found.items
 abbrev pub invariant-turns : goal.invariant-turns
 invariant-turns l = record {
   found : (m : Undivided) → IsConforming m → Shows l.table.sides l.table.nodes.items m → IsChain (spokes_of m l.u) l.fn.found.items l.first l.fn.ends.last → IsChain (spokes_of m l.u) l.found.items l.first l.right;
-  spots : AreInRange l.table.nodes.items → All HasSpots l.fn.found.items → All HasSpots l.found.items;
+  spots : ArePlacesInRange l.table.nodes.items → All HasSpots l.fn.found.items → All HasSpots l.found.items;
 }

@@ -2,7 +2,7 @@ use Rattle.std.proofs.Common.{◌≡◌, ◌+◌, ◌-◌, ◌*◌, ◌<◌, ◌
 use Rattle.std.proofs.lemmas.List.{drop_more}
 use Rattle.pf_model.specs.declared.Tri.{Tri}
 use Rattle.pf_model.specs.Exchange.{AreSound, IsTurned, SharesNoEdge}
-use Rattle.pf_edges.specs.Table.{IsWithin, ShowsTriangles}
+use Rattle.pf_edges.specs.Table.{HasNamedCorners, ShowsTriangles}
 use Rattle.pf_edges.proofs.TableSteps.{same_places}
 use Rattle.pf_apply.proofs.BuildList.{shows-cons}
 use Rattle.pf_mesh.proofs.Entered.{sound-drop, first-turned, shares-none, still-within}

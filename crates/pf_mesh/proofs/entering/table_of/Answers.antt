@@ -4,7 +4,7 @@ use Rattle.pf_model.specs.declared.Tri.{Tri}
 use Rattle.pf_model.specs.declared.Site.{Site}
 use Rattle.pf_model.specs.Exchange.{AreSound}
 use Rattle.pf_model.specs.Build.{point_at}
-use Rattle.pf_edges.specs.Table.{place_at, IsWithin, ShowsTriangles}
+use Rattle.pf_edges.specs.Table.{place_at, HasNamedCorners, ShowsTriangles}
 use Rattle.pf_sweep.specs.Points.{ArePoints}
 use Rattle.pf_mesh.proofs.Entered.{mesh-sound, mesh-within, table-keeps}
 use Rattle.pf_mesh.proofs.entering.table_of.Goals as goal
@@ -22,7 +22,7 @@ enter_listed-requires-clause-within c =
     let points = c.in_ok-points.points.items in
     let names : length points ≡ length nodes = ap length (sym c.deref.ensures.value) ∙ sym c.in_ok-table.ensures.empty.names in
     let N : List Site → Type 0 = λ ss. All (λ s. s.name < length points) ss in
-    let W : List Tri → Type 0 = λ ts. All (IsWithin nodes) ts in
+    let W : List Tri → Type 0 = λ ts. All (HasNamedCorners nodes) ts in
     subst W l.tris_are (mesh-within nodes (length points) l.mesh l.conforming names (subst N (sym l.sites_are) c.in_ok-points.ensures.named))
 
 pub returns : goal.returns

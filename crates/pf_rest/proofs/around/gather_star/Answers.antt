@@ -2,7 +2,7 @@ use Rattle.std.proofs.Common.{◌≡◌, ◌∙◌, arith, length, subst, sym}
 use Rattle.std.specs.Prelude.{All}
 use Rattle.std.proofs.lemmas.List.Elements.{All-nil}
 use Rattle.pf_model.specs.Stars.{spokes_of}
-use Rattle.pf_rules.specs.Star.{ArePart}
+use Rattle.pf_rules.specs.Star.{AreSomeOf}
 use Rattle.pf_spokes.specs.Spokes.{HasSpots}
 use Rattle.pf_judge.proofs.StarFan.{counted}
 use Rattle.pf_rest.proofs.StarAround.{part-nil, part-all}
@@ -11,7 +11,7 @@ use Rattle.pf_rest.proofs.around.gather_star.Goals as goal
 pub returns-clause-found : goal.returns-clause-found
 returns-clause-found c = λ m ok s told.
     let found = c.gather_higher.new.star.items in
-    let begun = subst (λ l. ArePart (spokes_of m c.args.u) l) (sym c.clear.ensures) (part-nil (spokes_of m c.args.u)) in
+    let begun = subst (λ l. AreSomeOf (spokes_of m c.args.u) l) (sym c.clear.ensures) (part-nil (spokes_of m c.args.u)) in
     let part = c.gather_higher.ensures.part m ok s (c.gather_lower.ensures.part m ok s begun) in
     let most = counted c.args.table.now.sides c.args.table.now.nodes.items m s c.args.u c.triangles-most.result c.triangles-most.ensures in
     let as_many : length (spokes_of m c.args.u) ≡ length found = most ∙ (sym c.if-len-most.false ∙ c.len.ensures.value) in

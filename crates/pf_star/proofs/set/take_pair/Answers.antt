@@ -1,19 +1,19 @@
 use Rattle.std.proofs.Common.{List, ◌∙◌, sym, subst, ap}
 use Rattle.std.specs.Prelude.{Some}
 use Rattle.pf_star_model.specs.Lent.{Held}
-use Rattle.pf_star.specs.Sets.{IsPlace, IsAt, IsNotAt}
+use Rattle.pf_star.specs.Sets.{IsIndexOfPair, IsAt, IsNotAt}
 use Rattle.pf_star.proofs.Places.{none-held, all-stay, held-found, without-found}
 use Rattle.pf_star.proofs.set.take_pair.Goals as goal
 
 pub returns-then-not-is_at-clause-taken : goal.returns-then-not-is_at-clause-taken
 returns-then-not-is_at-clause-taken c =
-    let P : List Held → Type 0 = λ l. IsPlace c.args.n l c.place-at.result in
+    let P : List Held → Type 0 = λ l. IsIndexOfPair c.args.n l c.place-at.result in
     let A : List Held → Type 0 = λ l. IsNotAt c.args.n l c.place-at.result in
     sym (none-held c.args.n c.args.pairs.now.items c.place-at.result c.requires (subst P c.deref.ensures.value c.place-at.ensures) (subst A c.deref-2.ensures.value (c.is_at.ensures.absent c.if-not-is_at.true))).1
 
 pub returns-then-not-is_at-clause-others : goal.returns-then-not-is_at-clause-others
 returns-then-not-is_at-clause-others c =
-    let P : List Held → Type 0 = λ l. IsPlace c.args.n l c.place-at.result in
+    let P : List Held → Type 0 = λ l. IsIndexOfPair c.args.n l c.place-at.result in
     let A : List Held → Type 0 = λ l. IsNotAt c.args.n l c.place-at.result in
     all-stay c.args.n c.args.pairs.now.items c.place-at.result c.requires (subst P c.deref.ensures.value c.place-at.ensures) (subst A c.deref-2.ensures.value (c.is_at.ensures.absent c.if-not-is_at.true))
 

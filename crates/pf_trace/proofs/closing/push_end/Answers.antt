@@ -3,7 +3,7 @@ use Rattle.std.specs.Prelude.{slice_index, ◌==◌, nat_lt}
 use Rattle.pf_model.specs.Texts.{lines_text}
 use Rattle.pf_core_model.specs.Core.{Opening}
 use Rattle.pf_core_model.specs.State.{CoreState, counted, free_part_of, tickets_in}
-use Rattle.pf_core.specs.Shown.{Shows}
+use Rattle.pf_core.specs.Shown.{ShowsState}
 use Rattle.trace_text.specs.declared.write.Closing.{Closing}
 use Rattle.trace_text.specs.Verdicts.{closing_of, closing_lines}
 use Rattle.pf_trace.proofs.Lines.{closing-is}

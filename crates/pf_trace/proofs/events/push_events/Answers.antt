@@ -1,4 +1,4 @@
-use Rattle.pf_core.specs.Shown.{Shows}
+use Rattle.pf_core.specs.Shown.{ShowsState}
 use Rattle.std.proofs.Common.{◌≡◌, ◌≤◌, ◌+◌, ◌++◌, length, refl, subst, ap, ◌∙◌, arith}
 use Rattle.pf_trace.proofs.Lines.{lines-is, after-is, first_stands, goes_on, is_done, still-shown}
 use Rattle.pf_trace.proofs.events.push_events.Goals as goal
@@ -19,7 +19,7 @@ loop-event-preserved c = record {
 pub returns-clause-state : goal.returns-clause-state
 returns-clause-state c = λ o k shows.
     let past : length c.args.events.now ≤ c.loop-event.event-index = omega arith in
-    subst (λ s. Shows o s c.loop-event.state) (after-is o k c.args.events.now) (is_done o k _ _ _ _ _ (c.loop-event.invariant.stands o k shows) past).0
+    subst (λ s. ShowsState o s c.loop-event.state) (after-is o k c.args.events.now) (is_done o k _ _ _ _ _ (c.loop-event.invariant.stands o k shows) past).0
 
 pub returns-clause-text : goal.returns-clause-text
 returns-clause-text c = λ o k shows.

@@ -2,7 +2,7 @@ use Rattle.std.proofs.Common.{sym, rules, of_calls, nat_lt}
 use Rattle.std.proofs.lemmas.Fn.{always_returns_same}
 use Rattle.std.proofs.lemmas.List.Sorted.{IsPartitionedBy-ltb}
 use Rattle.tri_text.proofs.WriteRows.{place_where, place_from, names_stay}
-use Rattle.tri_text.proofs.text.place_of.Goals as goal
+use Rattle.tri_text.proofs.text.index_of.Goals as goal
 
 pub returns-in-Some : goal.returns-in-Some
 returns-in-Some c =

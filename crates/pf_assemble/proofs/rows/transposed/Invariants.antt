@@ -1,6 +1,6 @@
 use Rattle.std.proofs.Common.{◌≡◌, ℕ, Bool, length}
 use Rattle.pf_assemble.specs.Rows.{AreTaken}
-use Rattle.pf_assemble.proofs.rows.turned.Given as goal
+use Rattle.pf_assemble.proofs.rows.transposed.Given as goal
 
 -- the new rows have the rows gone over
 abbrev pub invariant-rows : goal.invariant-rows

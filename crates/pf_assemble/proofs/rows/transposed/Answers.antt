@@ -3,7 +3,7 @@ use Rattle.std.specs.List.{list_any}
 use Rattle.pf_assemble.specs.Rows.{taken}
 use Rattle.pf_assemble.proofs.Filling.{rows-open, rows-close, or-none}
 use Rattle.pf_assemble.proofs.Places.{taken-any}
-use Rattle.pf_assemble.proofs.rows.turned.Goals as goal
+use Rattle.pf_assemble.proofs.rows.transposed.Goals as goal
 
 pub rows-preserved : goal.rows-preserved
 rows-preserved c = (
