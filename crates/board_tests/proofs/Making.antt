@@ -34,18 +34,18 @@ use Rattle.pf_core_model.specs.Cavity.{makes_node, makes, is_made}
 use Rattle.pf_core_model.specs.Sharers.{sharers_in}
 use Rattle.pf_core_model.specs.Moves.{committed, unborn_by, made_list}
 use Rattle.pf_core_model.specs.Core.{Opening, nodes_in, nodes_of}
-use Rattle.pf_core_model.specs.Guards.{IsMeshOf, IsJudged}
+use Rattle.pf_core_model.specs.Guards.{IsMeshOf, IsViewJudged}
 use Rattle.pf_core_model.specs.Seats.{Knows}
 use Rattle.pf_core_model.proofs.Born.{in_contains}
 use Rattle.pf_core_model.proofs.Lists.{in_map, in_mapped, in_either}
 use Rattle.pf_core_model.proofs.Replays.{and_left, or_cases}
 use Rattle.pf_core_model.proofs.Told.{live_known}
 use Rattle.pf_core_model.proofs.Sharing.{none_due}
-use Rattle.pf_board_steps.specs.Plays.{CanMake, Makes, fresh_at}
+use Rattle.pf_board_steps.specs.Plays.{CanCommit, Makes, fresh_at}
 use Rattle.pf_board_steps.proofs.Guards.{made_patch, seen_judged}
 use Rattle.pf_ghost.specs.declared.ready.Listed.{Listed}
 use Rattle.pf_ghost.specs.Prepared.{ready_of}
-use Rattle.pf_ghost.specs.Spread.{later_name, place_of, named_list, spread_at, SpreadPutsDue}
+use Rattle.pf_ghost.specs.Spread.{later_name, named_node, named_list, spread_at, SpreadPutsDue}
 use Rattle.pf_holder.specs.Prepared.{fresh_of, IsReady}
 use Rattle.pf_holder.proofs.Held.{held_shown, end_within, lent_held, in_has}
 use Rattle.pf_holder.proofs.Patches.{rising_apart}
@@ -93,13 +93,13 @@ whole_held : (ps : List Held) (op : Op) → needed (star_held ps) op ≡ None �
 whole_held ps op h = all_members (is_held ps) (cavity_seen (star_held ps) op)
     (λ n i. some_held n ps (not_not (is_some (star_held ps n)) (least_that-none (λ k. not (is_some (star_held ps k))) (cavity_seen (star_held ps) op) n h (in_contains n (cavity_seen (star_held ps) op) i))))
 
-pub can_make_by : (o : Opening) (v : View) (ks : List Kept) (chunk : ℕ) (op : Op) → Knows o v → LentBy v ks → Whole ≡ need_of (needed (lent_in ks) op) → judged (lent_in ks) o.mesh.bands chunk op ≡ None → CanMake v chunk op
+pub can_make_by : (o : Opening) (v : View) (ks : List Kept) (chunk : ℕ) (op : Op) → Knows o v → LentBy v ks → Whole ≡ need_of (needed (lent_in ks) op) → judged (lent_in ks) o.mesh.bands chunk op ≡ None → CanCommit v chunk op
 can_make_by o v ks chunk op k l w j = (
   whole_held v.held op (none_needed (needed (star_held v.held) op) (w ∙ (λ i. need_of (needed (lent_is v ks l i) op)))),
   (λ i. judged (sym (lent_is v ks l) i) (k.0.opening.3 i) chunk op) ∙ j,
 )
 
-module _ (o : Opening) (v : View) (ks : List Kept) (chunk : ℕ) (op : Op) (k : Knows o v) (l : LentBy v ks) (can : CanMake v chunk op) where
+module _ (o : Opening) (v : View) (ks : List Kept) (chunk : ℕ) (op : Op) (k : Knows o v) (l : LentBy v ks) (can : CanCommit v chunk op) where
   abbrev any : Entry
   any = record { ticket = 0; chunk = chunk; op = op }
 
@@ -207,7 +207,7 @@ module _ (m : Undivided) (lent : ℕ → Option Star) (chunk ticket : ℕ) (op :
       (find_at (λ (h : Held). renamed later_name name h.node) fresh n)
 
 -- what a commit makes due is put
-module _ (law : SpreadPutsDue) (o : Opening) (v w : View) (ks js ls : List Kept) (chunk t : ℕ) (op : Op) (ready : List Listed) (k : Knows o v) (l : LentBy v ks) (can : CanMake v chunk op)
+module _ (law : SpreadPutsDue) (o : Opening) (v w : View) (ks js ls : List Kept) (chunk t : ℕ) (op : Op) (ready : List Listed) (k : Knows o v) (l : LentBy v ks) (can : CanCommit v chunk op)
     (view : w ≡ committed v (entry_of t chunk op) (fresh_at v (entry_of 0 chunk op) t) (unborn_by v.first_new (entry_of t chunk op))) (made : Makes o v w (entry_of t chunk op))
     (one : makes_node op ≡ true → (n : ℕ) → (list_in js n ≡ cond (v.first_new + t == n) [] (list_in ks n)) × (lent_in js n ≡ cond (v.first_new + t == n) None (lent_in ks n))) (none : makes_node op ≡ false → js ≡ ks)
     (is_ready : IsReady (lent_in ks) o.mesh.chunks op ready) (puts : (n : ℕ) → list_in ls n ≡ spread_at (v.first_new + t) ready (list_in js) n) where
@@ -264,7 +264,7 @@ pub born_paid : (v : View) (ks : List Kept) → ((p : Held) → In p v.held → 
 born_paid v ks d u e = subst (λ (x : View). PaidBy x ks) (sym e) (record { clear = refl; due = d })
 
 -- what is seen of a bisection, whose ends are lent, is so on each mesh that the view may be of
-pub seen_by : (o : Opening) (v : View) (ks : List Kept) (chunk a b : ℕ) (x : Option Cond) → Knows o v → LentBy v ks → is_some (lent_in ks a) ≡ true → is_some (lent_in ks b) ≡ true → judged (lent_in ks) o.mesh.bands chunk (Bisect a b) ≡ x → IsJudged v chunk (Bisect a b) x
+pub seen_by : (o : Opening) (v : View) (ks : List Kept) (chunk a b : ℕ) (x : Option Cond) → Knows o v → LentBy v ks → is_some (lent_in ks a) ≡ true → is_some (lent_in ks b) ≡ true → judged (lent_in ks) o.mesh.bands chunk (Bisect a b) ≡ x → IsViewJudged v chunk (Bisect a b) x
 seen_by o v ks chunk a b x k l e f j = seen_judged v chunk (Bisect a b) x (
   (λ i. held a e i && (held b f i && true)),
   (λ i. judged (sym (lent_is v ks l) i) (k.0.opening.3 i) chunk (Bisect a b)) ∙ j,
@@ -276,7 +276,7 @@ seen_by o v ks chunk a b x k l e f j = seen_judged v chunk (Bisect a b) x (
 -- the last list is put first
 spread_last : (name : ℕ) (ls : List Listed) (l : Listed) (f g : ℕ → List Sharer) (n : ℕ) → g n ≡ put_at name l f n → spread_at name ls g n ≡ spread_at name (ls ++ l ∷ []) f n
 spread_last name [] l f g n e = e
-spread_last name (x ∷ xs) l f g n e = ap (λ (y : List Sharer). cond (n == place_of name x) (named_list name x) y) (spread_last name xs l f g n e)
+spread_last name (x ∷ xs) l f g n e = ap (λ (y : List Sharer). cond (n == named_node name x) (named_list name x) y) (spread_last name xs l f g n e)
 
 pub one_put : (name : ℕ) (all ls : List Listed) (l : Listed) (f g : ℕ → List Sharer) (whole : ℕ → List Sharer) → all ≡ ls ++ l ∷ [] → ((n : ℕ) → g n ≡ put_at name l f n) → ((n : ℕ) → spread_at name all f n ≡ whole n) → (n : ℕ) → spread_at name ls g n ≡ whole n
 one_put name all ls l f g whole is put kept n = spread_last name ls l f g n (put n) ∙ ap (λ (x : List Listed). spread_at name x f n) (sym is) ∙ kept n
@@ -286,7 +286,7 @@ no_lists [] e = refl
 no_lists (x ∷ xs) e = absurd (omega (arith, e))
 
 -- so it is of a seat, once all lists are put
-pub make_paid : SpreadPutsDue → (o : Opening) (s w u : BoardSeat) (chunk t name : ℕ) (op : Op) (ready : List Listed) → Knows o s.seat.me.0 → IsLending s → CanMake s.seat.me.0 chunk op → TellsCommit o t chunk op s w → IsReady (lent_in s.kept.items) o.mesh.chunks op ready
+pub make_paid : SpreadPutsDue → (o : Opening) (s w u : BoardSeat) (chunk t name : ℕ) (op : Op) (ready : List Listed) → Knows o s.seat.me.0 → IsLending s → CanCommit s.seat.me.0 chunk op → TellsCommit o t chunk op s w → IsReady (lent_in s.kept.items) o.mesh.chunks op ready
     → u.seat.me.0 ≡ w.seat.me.0 → name ≡ s.seat.me.0.first_new + t → ((n : ℕ) → list_in u.kept.items n ≡ spread_at name ready (list_in w.kept.items) n) → (p : Held) → In p u.seat.me.0.held → list_in u.kept.items p.node ≡ sharers_in u.seat.me.0.chunks p.star
 make_paid law o s w u chunk t name op ready k l can told is same named puts = subst (λ (x : View). (p : Held) → In p x.held → list_in u.kept.items p.node ≡ sharers_in x.chunks p.star) (sym same)
     (made_due law o s.seat.me.0 w.seat.me.0 s.kept.items w.kept.items u.kept.items chunk t op ready k l can told.view told.makes told.made told.same is (λ n. puts n ∙ ap (λ (x : ℕ). spread_at x ready (list_in w.kept.items) n) named))

@@ -6,7 +6,7 @@ use Rattle.pf_core_model.specs.declared.view.View.{View}
 use Rattle.pf_core_model.specs.Lists.{In}
 use Rattle.pf_core_model.specs.Sharers.{sharers_in}
 use Rattle.pf_ghost.specs.declared.ready.Listed.{Listed}
-use Rattle.pf_ghost.specs.Spread.{place_of, named_list}
+use Rattle.pf_ghost.specs.Spread.{named_node, named_list}
 use Rattle.pf_locks.specs.declared.kept.Kept.{Kept}
 use Rattle.pf_locks.specs.declared.seat.BoardSeat.{BoardSeat}
 use Rattle.pf_locks.specs.Lists.{list_in, lent_in}
@@ -31,7 +31,7 @@ IsLending s = LentBy s.seat.me.0 s.kept.items
 
 -- the copies of the node n once this list was put over the copies of all nodes
 abbrev pub put_at : ℕ → Listed → (ℕ → List Sharer) → ℕ → List Sharer
-put_at name l copies n = cond (n == place_of name l) (named_list name l) (copies n)
+put_at name l copies n = cond (n == named_node name l) (named_list name l) (copies n)
 
 -- the node is among those that are kept
 abbrev pub is_kept : List Kept → ℕ → Bool

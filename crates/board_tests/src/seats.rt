@@ -6,8 +6,8 @@ ghost use Rattle.pf_model.specs.declared.Op.TheVariants.{Bisect, Contract};
 ghost use Rattle.pf_star_model.specs.Judged.{judged};
 ghost use Rattle.pf_core_model.specs.Cavity as cavity;
 ghost use Rattle.pf_core_model.specs.Sharers.{sharers_in};
-ghost use Rattle.pf_core_model.specs.Guards.{IsJudged};
-ghost use Rattle.pf_board_steps.specs.Plays.{CanMake};
+ghost use Rattle.pf_core_model.specs.Guards.{IsViewJudged};
+ghost use Rattle.pf_board_steps.specs.Plays.{CanCommit};
 ghost use Rattle.pf_holder.specs.Prepared.{IsReady};
 ghost use Rattle.pf_ghost.specs.Prepared.{ready_of};
 ghost use Rattle.pf_ghost.specs.Spread.{spread_at};
@@ -92,7 +92,7 @@ fn passes(board: &Board, s: &BoardSeat, chunk: u16, op: Op) -> bool
 fn can_make(board: &Board, s: &BoardSeat, chunk: u16, op: Op) -> bool
     requires seat { IsSeat board.now.table.shared.key s.now }
     requires lends { IsLending s.now }
-    ensures { result ≡ true → CanMake s.now.seat.me.0 chunk op }
+    ensures { result ≡ true → CanCommit s.now.seat.me.0 chunk op }
 {
     match need(&Lens { seat: s }, op) {
         Need::Whole => passes(board, s, chunk, op),
@@ -134,7 +134,7 @@ fn readied(
 ) -> Result<Vec<Listed>, NoMemory>
     requires seat { IsSeat board.now.table.shared.key s.now }
     requires lends { IsLending s.now }
-    requires can { CanMake s.now.seat.me.0 chunk op }
+    requires can { CanCommit s.now.seat.me.0 chunk op }
     ensures { IfOk result (λ v. IsReady (lent_in s.now.kept.items) board.now.table.shared.key.mesh.chunks op v.items) }
 {
     let _ = chunk;
@@ -262,7 +262,7 @@ pub fn count(board: &Board, s: &mut BoardSeat) -> u32
 fn asked(board: &Board, s: &BoardSeat, chunk: u16, a: u32, b: u32) -> Option<Cond>
     requires seat { IsSeat board.now.table.shared.key s.now }
     requires lends { IsLending s.now }
-    ensures { IfSome result (λ cond. IsJudged s.now.seat.me.0 chunk (Bisect a b) (Some cond)) }
+    ensures { IfSome result (λ cond. IsViewJudged s.now.seat.me.0 chunk (Bisect a b) (Some cond)) }
 {
     if !lends(s, a) {
         return None;

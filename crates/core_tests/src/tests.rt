@@ -2,7 +2,7 @@
 ghost use Rattle.std.specs.Prelude.{◌≡◌, ◌≤◌, ◌∷◌, [], IfOk, OnOk};
 ghost use Rattle.pf_model.specs.Applied.{IsFresh};
 ghost use Rattle.pf_model.specs.Conforming.{HasDefault};
-ghost use Rattle.pf_core.specs.Shown.{IsShown};
+ghost use Rattle.pf_core.specs.Shown.{IsShownState};
 
 use pf_core::{Event, State, Verdict, Word, step};
 use pf_geom::{NoMemory, Point};
@@ -49,7 +49,7 @@ fn kite(alloc: Global) -> Result<Mesh, Fail>
 
 // The state of one actor over the kite, before the first event.
 fn begun(alloc: Global) -> Result<State, Fail>
-    ensures { IfOk result (λ s. IsShown s) }
+    ensures { IfOk result (λ s. IsShownState s) }
 {
     let mesh = kite(alloc)?;
     let state = State::new(alloc, &mesh, 1, 1)?;
@@ -58,8 +58,8 @@ fn begun(alloc: Global) -> Result<State, Fail>
 
 // The event takes place.
 fn take<R: Abort + AllocGlobal>(rt: &R, state: &mut State, event: Event) -> Result<(), NoMemory>
-    requires { IsShown state.old }
-    ensures { OnOk result (IsShown state.new) }
+    requires { IsShownState state.old }
+    ensures { OnOk result (IsShownState state.new) }
 {
     let verdict = step(rt.alloc(), state, event)?;
     assert!(rt; verdict != Verdict::Ignored, "{event:?}");
@@ -72,8 +72,8 @@ fn take_all<R: Abort + AllocGlobal>(
     state: &mut State,
     events: &[Event],
 ) -> Result<(), NoMemory>
-    requires { IsShown state.old }
-    ensures { OnOk result (IsShown state.new) }
+    requires { IsShownState state.old }
+    ensures { OnOk result (IsShownState state.new) }
 {
     for event in events {
         take(rt, state, *event)?;
@@ -83,8 +83,8 @@ fn take_all<R: Abort + AllocGlobal>(
 
 // The actor takes every node of the kite, and flips its edge.
 fn hold_and_flip<R: Abort + AllocGlobal>(rt: &R, state: &mut State) -> Result<(), NoMemory>
-    requires { IsShown state.old }
-    ensures { OnOk result (IsShown state.new) }
+    requires { IsShownState state.old }
+    ensures { OnOk result (IsShownState state.new) }
 {
     take_all(rt, state, &[0, 1, 2, 3].map(|n| Event::Lock { a: 0, n }))?;
     let (chunk, op) = (0, Op::Flip { a: 0, b: 1 });
@@ -93,8 +93,8 @@ fn hold_and_flip<R: Abort + AllocGlobal>(rt: &R, state: &mut State) -> Result<()
 
 // The actor puts the copies that it owes, of one node after another.
 fn put<R: Abort + AllocGlobal>(rt: &R, state: &mut State) -> Result<(), NoMemory>
-    requires { IsShown state.old }
-    ensures { OnOk result (IsShown state.new) }
+    requires { IsShownState state.old }
+    ensures { OnOk result (IsShownState state.new) }
 {
     for n in 0..4 {
         take_all(
@@ -108,8 +108,8 @@ fn put<R: Abort + AllocGlobal>(rt: &R, state: &mut State) -> Result<(), NoMemory
 
 // The actor gives every node back.
 fn give_back<R: Abort + AllocGlobal>(rt: &R, state: &mut State) -> Result<(), NoMemory>
-    requires { IsShown state.old }
-    ensures { OnOk result (IsShown state.new) }
+    requires { IsShownState state.old }
+    ensures { OnOk result (IsShownState state.new) }
 {
     take_all(rt, state, &[0, 1, 2, 3].map(|n| Event::Release { a: 0, n }))
 }
@@ -149,7 +149,7 @@ fn assert_free_part<R: Abort + AllocGlobal>(
     state: &State,
     tris: &[Tri],
 ) -> Result<(), NoMemory>
-    requires { IsShown state.now }
+    requires { IsShownState state.now }
 {
     assert_eq!(rt; state.free_part(rt.alloc())?.as_slice(), tris);
     Ok(())
@@ -191,7 +191,7 @@ fn a_chunk_that_ceases_to_share_has_no_copy(rt: HostRuntime) -> Result<(), Fail>
 
 // The flip is the only entry, its nodes are free again, and no fifth node was made.
 fn assert_flipped<R: Abort + AllocGlobal>(rt: &R, state: &State) -> Result<(), Fail>
-    requires { IsShown state.now }
+    requires { IsShownState state.now }
 {
     assert_eq!(rt; state.word(0), Word::Free);
     assert_eq!(rt; state.word(4), Word::Never);

@@ -20,12 +20,12 @@ use Rattle.pf_edges.specs.declared.table.Node.{Node}
 use Rattle.pf_edges.specs.Table.{Sides, place_at, triangles_at, point_or_origin, ArePlacesInRange, ShowsTriangles, HasSamePlaces}
 use Rattle.pf_edges.specs.Kept.{IsKept, mesh_of}
 use Rattle.pf_apply.specs.Sites.{sites_after}
-use Rattle.pf_rules.specs.Change.{CanMake}
+use Rattle.pf_rules.specs.Change.{PassesWithName}
 use Rattle.pf_apply.specs.Operations.{AreParts, HasPlaces}
 use Rattle.pf_apply.proofs.MeshLemmas.{live-within, shown-point, shows-from, kept-unchanged}
 
 -- the new name isn't live
-pub new_not_live : (m : Undivided) (n : ℕ) (op : Op) → CanMake m n op → point_of m.sites n ≡ None
+pub new_not_live : (m : Undivided) (n : ℕ) (op : Op) → PassesWithName m n op → point_of m.sites n ≡ None
 new_not_live m n op can = subst (λ k. point_of m.sites k ≡ None) can.name (fresh_not_live m.sites (m.first_new + can.ticket) can.fresh)
 
 -- a name without triangles may stand elsewhere
@@ -115,7 +115,7 @@ kept-applied sides nodes after m ok s h same range =
     }
 
 -- the mesh after an operation that can be applied
-pub can-conforms : (m : Undivided) (n : ℕ) (op : Op) → IsConforming m → (can : CanMake m n op) → IsConforming (op_applied m can.ticket op)
+pub can-conforms : (m : Undivided) (n : ℕ) (op : Op) → IsConforming m → (can : PassesWithName m n op) → IsConforming (op_applied m can.ticket op)
 can-conforms m n op ok can = applied_conforms m can.chunk can.ticket op ok can.fresh can.passes
 
 -- where the new node stands, after a bisection
@@ -126,7 +126,7 @@ new-place m n mid none = point_of-past m.sites (record { name = n; at = mid } �
     itself k = grind (arith, nat_tests)
 
 -- the sites after, by where the table has the new node
-pub sites-applied : (sides : Sides) (nodes : List Node) (m : Undivided) (n : ℕ) (op : Op) → (can : CanMake m n op) → IsKept sides nodes (op_applied m can.ticket op) → sites_after m.sites n (point_or_origin nodes n) op ≡ (op_applied m can.ticket op).sites
+pub sites-applied : (sides : Sides) (nodes : List Node) (m : Undivided) (n : ℕ) (op : Op) → (can : PassesWithName m n op) → IsKept sides nodes (op_applied m can.ticket op) → sites_after m.sites n (point_or_origin nodes n) op ≡ (op_applied m can.ticket op).sites
 sites-applied sides nodes m n (Flip a b) can k = refl
 sites-applied sides nodes m n (Contract u v) can k = refl
 sites-applied sides nodes m n (Bisect a b) can k =

@@ -25,12 +25,12 @@ use Rattle.pf_edges.specs.declared.table.Node.{Node}
 use Rattle.pf_model.specs.Exchange.{exchanged, without, without_all}
 use Rattle.pf_edges.specs.Table.{Sides}
 use Rattle.pf_edges.specs.Kept.{IsKept}
-use Rattle.pf_rules.specs.Change.{CanMake}
+use Rattle.pf_rules.specs.Change.{PassesWithName}
 use Rattle.pf_apply.specs.Run.{IsSaid, IsStopped, IsReached}
 use Rattle.pf_apply.proofs.SitesListed.{site_lt, site-found}
 
 -- an entry that isn't refused can be applied
-abbrev pub can-apply : (sides : Sides) (nodes : List Node) (bands : List Band) (first_new site_room tri_room : ℕ) (m : Undivided) (e : Entry) → IsReached sides nodes bands first_new e.ticket site_room tri_room m → refusal_of m e ≡ None → CanMake m (first_new + e.ticket) e.op
+abbrev pub can-apply : (sides : Sides) (nodes : List Node) (bands : List Band) (first_new site_room tri_room : ℕ) (m : Undivided) (e : Entry) → IsReached sides nodes bands first_new e.ticket site_room tri_room m → refusal_of m e ≡ None → PassesWithName m (first_new + e.ticket) e.op
 can-apply sides nodes bands first_new site_room tri_room m e r passes =
     record {
       chunk = e.chunk;

@@ -9,13 +9,13 @@ use Rattle.pf_model.specs.Conforming.{IsLive}
 use Rattle.pf_edges.specs.declared.table.Node.{Node}
 use Rattle.pf_edges.specs.Table.{Sides, place_at}
 use Rattle.pf_edges.specs.Kept.{IsKept}
-use Rattle.pf_rules.specs.Change.{CanMake, IsChange}
+use Rattle.pf_rules.specs.Change.{PassesWithName, IsChange}
 
 -- the table shows a mesh to which the operation can be applied, which makes the second list of the first
 pub record ShowsApplicable (sides : Sides) (nodes : List Node) (n : ℕ) (op : Op) (removed new : List Tri) : Type 0 where
   pub mesh : Undivided
   pub kept : IsKept sides nodes mesh
-  pub can : CanMake mesh n op
+  pub can : PassesWithName mesh n op
   pub change : IsChange mesh n op removed new
 
 -- the table and the lists are those of this mesh
@@ -28,7 +28,7 @@ pub record AreParts (sides : Sides) (nodes : List Node) (sites : List Site) (tri
 pub record CanPerform (sides : Sides) (nodes : List Node) (sites : List Site) (tris : List Tri) (n : ℕ) (op : Op) (removed new : List Tri) : Type 0 where
   pub mesh : Undivided
   pub parts : AreParts sides nodes sites tris mesh
-  pub can : CanMake mesh n op
+  pub can : PassesWithName mesh n op
   pub change : IsChange mesh n op removed new
 
 -- the live names of the mesh are names of the table, and stand where the mesh has them

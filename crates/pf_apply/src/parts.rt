@@ -3,7 +3,7 @@ ghost use Rattle.std.specs.Prelude.{◌≡◌, ◌+◌, ◌*◌, ◌^◌, ◌<�
 ghost use Rattle.indexmap.specs.IndexMap.{spare, IsUnchanged};
 ghost use Rattle.pf_model.specs.Mesh.{Undivided};
 ghost use Rattle.pf_model.specs.Applied.{op_applied};
-ghost use Rattle.pf_rules.specs.Change.{CanMake, IsChange};
+ghost use Rattle.pf_rules.specs.Change.{PassesWithName, IsChange};
 ghost use Rattle.pf_apply.specs.Operations.{AreParts, CanPerform};
 
 use crate::listing::exchange_listed;
@@ -57,7 +57,7 @@ pub fn perform_within(
     requires sides { 3 * length change.now.new.items ≤ spare table.old.sides }
     requires sites { vec_len sites.old < vec_capacity sites.old }
     requires tris { vec_len tris.old + length change.now.new.items ≤ vec_capacity tris.old }
-    ensures applied { (m : Undivided) → AreParts table.old.sides table.old.nodes.items sites.old.items tris.old.items m → (can : CanMake m n op)
+    ensures applied { (m : Undivided) → AreParts table.old.sides table.old.nodes.items sites.old.items tris.old.items m → (can : PassesWithName m n op)
         → IsChange m n op change.now.removed.items change.now.new.items
         → AreParts table.new.sides table.new.nodes.items sites.new.items tris.new.items (op_applied m can.ticket op) }
     ensures names { vec_capacity table.old.nodes ≤ vec_capacity table.new.nodes }

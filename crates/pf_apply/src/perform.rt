@@ -6,7 +6,7 @@ ghost use Rattle.pf_model.specs.Applied.{op_applied};
 ghost use Rattle.pf_model.specs.Limits.{most_spokes};
 ghost use Rattle.pf_edges.specs.Table.{ArePlacesInRange};
 ghost use Rattle.pf_edges.specs.Kept.{IsKept};
-ghost use Rattle.pf_rules.specs.Change.{CanMake, IsChange};
+ghost use Rattle.pf_rules.specs.Change.{PassesWithName, IsChange};
 ghost use Rattle.pf_apply.specs.Operations.{ShowsApplicable, HasPlaces};
 
 use pf_edges::table::EdgeTable;
@@ -21,8 +21,8 @@ fn make_node(table: &mut EdgeTable, n: u32, op: Op)
     requires in_range { ArePlacesInRange table.old.nodes.items }
     requires room { n < vec_capacity table.old.nodes }
     ensures sides { table.new.sides ≡ table.old.sides }
-    ensures keeps { (m : Undivided) → IsKept table.old.sides table.old.nodes.items m → CanMake m n op → IsKept table.new.sides table.new.nodes.items m }
-    ensures places { (m : Undivided) → IsKept table.old.sides table.old.nodes.items m → (can : CanMake m n op)
+    ensures keeps { (m : Undivided) → IsKept table.old.sides table.old.nodes.items m → PassesWithName m n op → IsKept table.new.sides table.new.nodes.items m }
+    ensures places { (m : Undivided) → IsKept table.old.sides table.old.nodes.items m → (can : PassesWithName m n op)
         → HasPlaces table.new.nodes.items (op_applied m can.ticket op) }
     ensures room { vec_capacity table.old.nodes ≤ vec_capacity table.new.nodes }
 {
@@ -41,10 +41,10 @@ fn make_node(table: &mut EdgeTable, n: u32, op: Op)
 /// `n`. After an error the table shows the mesh that it showed before.
 pub fn perform(table: &mut EdgeTable, n: u32, op: Op, change: &Change) -> Result<(), NoMemory>
     requires { ShowsApplicable table.old.sides table.old.nodes.items n op change.now.removed.items change.now.new.items }
-    ensures applied { OnOk result ((m : Undivided) → IsKept table.old.sides table.old.nodes.items m → (can : CanMake m n op)
+    ensures applied { OnOk result ((m : Undivided) → IsKept table.old.sides table.old.nodes.items m → (can : PassesWithName m n op)
         → IsChange m n op change.now.removed.items change.now.new.items → IsKept table.new.sides table.new.nodes.items (op_applied m can.ticket op)) }
     ensures few { OnOk result (length change.now.new.items ≤ most_spokes) }
-    ensures err { OnErr result ((m : Undivided) → IsKept table.old.sides table.old.nodes.items m → CanMake m n op
+    ensures err { OnErr result ((m : Undivided) → IsKept table.old.sides table.old.nodes.items m → PassesWithName m n op
         → IsKept table.new.sides table.new.nodes.items m) }
 {
     table.reserve(n as usize + 1, change.new.len())?;
@@ -57,7 +57,7 @@ pub fn perform_on_table(table: &mut EdgeTable, n: u32, op: Op, change: &Change)
     requires can { ShowsApplicable table.old.sides table.old.nodes.items n op change.now.removed.items change.now.new.items }
     requires names { n < vec_capacity table.old.nodes }
     requires sides { 3 * length change.now.new.items ≤ spare table.old.sides }
-    ensures applied { (m : Undivided) → IsKept table.old.sides table.old.nodes.items m → (can : CanMake m n op)
+    ensures applied { (m : Undivided) → IsKept table.old.sides table.old.nodes.items m → (can : PassesWithName m n op)
         → IsChange m n op change.now.removed.items change.now.new.items → IsKept table.new.sides table.new.nodes.items (op_applied m can.ticket op) }
     ensures names { vec_capacity table.old.nodes ≤ vec_capacity table.new.nodes }
     ensures sides { spare table.old.sides ≤ spare table.new.sides + 3 * length change.now.new.items }

@@ -13,7 +13,7 @@ use Rattle.pf_model.specs.Stars.{Star, star_of}
 use Rattle.pf_star_model.specs.Lent.{Held}
 use Rattle.pf_core_model.specs.Core.{Opening}
 use Rattle.pf_holder.specs.Facts.{won_pair, IsSeen, IsJudged, mesh_alone, KnowsAll}
-use Rattle.pf_holder.specs.Answers.{HoldsStar, HasStar, IsFailing, TellsOf, IsDone, IsEntered}
+use Rattle.pf_holder.specs.Answers.{HoldsStar, HasStar, IsFailing, TellsOf, IsDoneAnswer, IsEntered}
 use Rattle.pf_attempt.specs.Stages.{TellsProbe}
 use Rattle.pf_core_model.specs.declared.answer.Answer.{Answer}
 use Rattle.pf_core_model.specs.declared.answer.Answer.TheVariants.{Done, Refused, Busy, Gone, Unborn, Spent, Memory}
@@ -36,7 +36,7 @@ clash : (m : Undivided) (n : ℕ) → HasStar m n → star_of m n ≡ None → �
 clash m n h e = absurd (let k : false ≡ true = sym (ap (λ (o : Option Star). is_some o) e) ∙ h in cc)
 
 -- where the operation passes it is done, unless no memory is left
-pub done_where : (m : Undivided) (chunk : ℕ) (op : Op) (rich : ℕ) (before : List Entry) (left : ℕ) (after : List Entry) (a : Answer) → TellsOf m chunk op a → IsEntered chunk op rich before left after a → 0 < rich → IsFailing m chunk op None → IsDone a
+pub done_where : (m : Undivided) (chunk : ℕ) (op : Op) (rich : ℕ) (before : List Entry) (left : ℕ) (after : List Entry) (a : Answer) → TellsOf m chunk op a → IsEntered chunk op rich before left after a → 0 < rich → IsFailing m chunk op None → IsDoneAnswer a
 done_where m chunk op rich before left after (Done t) h e r p = tt
 done_where m chunk op rich before left after (Refused t why) h e r p = absurd (let k : None ≡ Some why = sym p.2 ∙ h.2 in cc)
 done_where m chunk op rich before left after (Busy t n k) h e r p = absurd h

@@ -65,11 +65,11 @@ abbrev pub PassesHeld : List Band → List Held → ℕ → Op → Type 0
 PassesHeld bands pairs chunk op = HoldsPart bands pairs chunk op × HoldsCavity bands pairs chunk op × IsJudged bands pairs chunk op None
 
 -- it says why an operation is not made: that it fails, that an end is no node, or that another holds a node
-abbrev pub IsRefusal : Answer → Type 0
-IsRefusal (Done t) = ⊥
-IsRefusal Spent = ⊥
-IsRefusal Memory = ⊥
-IsRefusal _ = Unit {0}
+abbrev pub IsRefusedAnswer : Answer → Type 0
+IsRefusedAnswer (Done t) = ⊥
+IsRefusedAnswer Spent = ⊥
+IsRefusedAnswer Memory = ⊥
+IsRefusedAnswer _ = Unit {0}
 
 -- the ticket of an operation that was made is below this number
 abbrev pub IsTicketBelow : ℕ → Answer → Type 0

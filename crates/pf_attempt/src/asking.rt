@@ -2,7 +2,7 @@
 ghost use Rattle.std.specs.Prelude.{◌≡◌, ℕ, ◌≤◌, [], None, IfSome};
 ghost use Rattle.pf_holder.specs.Facts.{LendsAll, mesh_alone};
 ghost use Rattle.pf_holder.specs.Answers.{IsBacked};
-ghost use Rattle.pf_attempt.specs.Stages.{IsRefusal, TellsProbe};
+ghost use Rattle.pf_attempt.specs.Stages.{IsRefusedAnswer, TellsProbe};
 
 use crate::trying::judged_held;
 use pf_core_model::Answer;
@@ -20,7 +20,7 @@ pub fn probe<H: Holder>(h: &mut H, chunk: u16, op: Op) -> Option<Answer>
     ensures nothing { (H.pairs h.new ≡ []) × (H.unborn h.new ≡ None) × (H.owed h.new ≡ []) }
     ensures lends { LendsAll (H.lent h.new) (H.pairs h.new) }
     ensures kept { (H.entries h.new ≡ H.entries h.old) × (H.allowance h.new ≡ H.allowance h.old) × (H.seen_at h.old ≤ H.seen_at h.new) }
-    ensures refused { IfSome result IsRefusal }
+    ensures refused { IfSome result IsRefusedAnswer }
     ensures right { IfSome result (λ x. IsBacked (H.opening h.old) chunk op (H.seen_at h.old) (H.gained h.old h.new) x) }
     ensures alone { H.alone h.old → TellsProbe (mesh_alone (H.opening h.old) (H.entries h.old)) chunk op result }
 {

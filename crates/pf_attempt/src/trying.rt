@@ -9,8 +9,8 @@ ghost use Rattle.pf_core_model.specs.Core.{nodes_in};
 ghost use Rattle.pf_core_model.specs.Right.{IsEnd};
 ghost use Rattle.pf_holder.specs.Facts.{LendsAll, IsJudged, HoldsCavity, IsNearLent, won_pair, mesh_alone};
 ghost use Rattle.pf_holder.specs.Prepared.{IsReady};
-ghost use Rattle.pf_holder.specs.Answers.{IsBacked, IsEntered, IsInCavity, HoldsStar, IsFailing, TellsOf, IsDone, AreEndsNames, FoundNothing, IsJudgedAnswer};
-ghost use Rattle.pf_attempt.specs.Stages.{judged_first, judged_last, HoldsEnds, HoldsPart, CanMake, PassesHeld, IsRefusal, IsTicketBelow};
+ghost use Rattle.pf_holder.specs.Answers.{IsBacked, IsEntered, IsInCavity, HoldsStar, IsFailing, TellsOf, IsDoneAnswer, AreEndsNames, FoundNothing, IsJudgedAnswer};
+ghost use Rattle.pf_attempt.specs.Stages.{judged_first, judged_last, HoldsEnds, HoldsPart, CanMake, PassesHeld, IsRefusedAnswer, IsTicketBelow};
 
 use pf_cavity::{Need, need};
 use pf_core_model::{Answer, Asked};
@@ -45,7 +45,7 @@ pub fn attempt<H: Holder>(alloc: Global, h: &mut H, chunk: u16, op: Op) -> Answe
     ensures below { IsTicketBelow (H.seen_at h.new) result }
     ensures alone { H.alone h.old → TellsOf (mesh_alone (H.opening h.old) (H.entries h.old)) chunk op result }
     ensures judged { 0 < H.allowance h.old → AreEndsNames (H.opening h.old) op → FoundNothing (H.gained h.old h.new) → IsJudgedAnswer result }
-    ensures done { H.alone h.old → 0 < H.allowance h.old → IsFailing (mesh_alone (H.opening h.old) (H.entries h.old)) chunk op None → IsDone result }
+    ensures done { H.alone h.old → 0 < H.allowance h.old → IsFailing (mesh_alone (H.opening h.old) (H.entries h.old)) chunk op None → IsDoneAnswer result }
 {
     if h.allow() == 0 {
         return Answer::Spent;
@@ -84,7 +84,7 @@ pub fn judged_held<H: Holder>(h: &mut H, chunk: u16, op: Op) -> Option<Answer>
     ensures others { (H.unborn h.new ≡ H.unborn h.old) × (H.owed h.new ≡ H.owed h.old) }
     ensures kept { (H.entries h.new ≡ H.entries h.old) × (H.allowance h.new ≡ H.allowance h.old) × (H.seen_at h.old ≤ H.seen_at h.new) }
     ensures passes { result ≡ None → PassesHeld (H.opening h.new).mesh.bands (H.pairs h.new) chunk op }
-    ensures refused { IfSome result IsRefusal }
+    ensures refused { IfSome result IsRefusedAnswer }
     ensures right { IfSome result (λ x. IsBacked (H.opening h.old) chunk op (H.seen_at h.old) (H.gained h.old h.new) x) }
     ensures alone { H.alone h.old → IfSome result (λ x. TellsOf (mesh_alone (H.opening h.old) (H.entries h.old)) chunk op x) }
 {
@@ -112,7 +112,7 @@ fn ends_held<H: Holder>(h: &mut H, chunk: u16, op: Op) -> Option<Answer>
     ensures others { (H.unborn h.new ≡ H.unborn h.old) × (H.owed h.new ≡ H.owed h.old) }
     ensures kept { (H.entries h.new ≡ H.entries h.old) × (H.allowance h.new ≡ H.allowance h.old) × (H.seen_at h.old ≤ H.seen_at h.new) }
     ensures ends { result ≡ None → HoldsEnds op (H.pairs h.new) }
-    ensures refused { IfSome result IsRefusal }
+    ensures refused { IfSome result IsRefusedAnswer }
     ensures right { IfSome result (λ x. IsBacked (H.opening h.old) chunk op (H.seen_at h.old) (H.gained h.old h.new) x) }
     ensures alone { H.alone h.old → IfSome result (λ x. TellsOf (mesh_alone (H.opening h.old) (H.entries h.old)) chunk op x) }
 {
@@ -148,7 +148,7 @@ fn end_held<H: Holder>(h: &mut H, chunk: u16, op: Op, n: u32) -> Option<Answer>
     ensures others { (H.unborn h.new ≡ H.unborn h.old) × (H.owed h.new ≡ H.owed h.old) }
     ensures kept { (H.entries h.new ≡ H.entries h.old) × (H.allowance h.new ≡ H.allowance h.old) × (H.seen_at h.old ≤ H.seen_at h.new) }
     ensures won { result ≡ None → (s : Star) × (H.pairs h.new ≡ won_pair n s ∷ H.pairs h.old) }
-    ensures refused { IfSome result IsRefusal }
+    ensures refused { IfSome result IsRefusedAnswer }
     ensures right { IfSome result (λ x. IsBacked (H.opening h.old) chunk op (H.seen_at h.old) (H.gained h.old h.new) x) }
     ensures alone { H.alone h.old → IfSome result (λ x. TellsOf (mesh_alone (H.opening h.old) (H.entries h.old)) chunk op x) }
 {
@@ -219,7 +219,7 @@ fn refused<H: Holder>(h: &mut H, chunk: u16, op: Op, cond: Cond) -> Answer
     ensures lends { LendsAll (H.lent h.new) (H.pairs h.new) }
     ensures others { (H.unborn h.new ≡ H.unborn h.old) × (H.owed h.new ≡ H.owed h.old) }
     ensures kept { (H.entries h.new ≡ H.entries h.old) × (H.allowance h.new ≡ H.allowance h.old) × (H.seen_at h.old ≤ H.seen_at h.new) }
-    ensures refused { IsRefusal result }
+    ensures refused { IsRefusedAnswer result }
     ensures right { IsBacked (H.opening h.old) chunk op (H.seen_at h.old) (H.gained h.old h.new) result }
     ensures alone { H.alone h.old → TellsOf (mesh_alone (H.opening h.old) (H.entries h.old)) chunk op result }
 {
@@ -236,7 +236,7 @@ fn cavity_held<H: Holder>(h: &mut H, chunk: u16, op: Op) -> Option<Answer>
     ensures others { (H.unborn h.new ≡ H.unborn h.old) × (H.owed h.new ≡ H.owed h.old) }
     ensures kept { (H.entries h.new ≡ H.entries h.old) × (H.allowance h.new ≡ H.allowance h.old) × (H.seen_at h.old ≤ H.seen_at h.new) }
     ensures whole { result ≡ None → HoldsPart (H.opening h.new).mesh.bands (H.pairs h.new) chunk op × HoldsCavity (H.opening h.new).mesh.bands (H.pairs h.new) chunk op }
-    ensures refused { IfSome result IsRefusal }
+    ensures refused { IfSome result IsRefusedAnswer }
     ensures right { IfSome result (λ x. IsBacked (H.opening h.old) chunk op (H.seen_at h.old) (H.gained h.old h.new) x) }
     ensures alone { H.alone h.old → IfSome result (λ x. TellsOf (mesh_alone (H.opening h.old) (H.entries h.old)) chunk op x) }
 {
@@ -264,7 +264,7 @@ fn node_held<H: Holder>(h: &mut H, chunk: u16, op: Op, n: u32) -> Option<Answer>
     ensures others { (H.unborn h.new ≡ H.unborn h.old) × (H.owed h.new ≡ H.owed h.old) }
     ensures kept { (H.entries h.new ≡ H.entries h.old) × (H.allowance h.new ≡ H.allowance h.old) × (H.seen_at h.old ≤ H.seen_at h.new) }
     ensures won { result ≡ None → (s : Star) × (H.pairs h.new ≡ won_pair n s ∷ H.pairs h.old) }
-    ensures refused { IfSome result IsRefusal }
+    ensures refused { IfSome result IsRefusedAnswer }
     ensures right { IfSome result (λ x. IsBacked (H.opening h.old) chunk op (H.seen_at h.old) (H.gained h.old h.new) x) }
     ensures alone { H.alone h.old → IfSome result (λ x. TellsOf (mesh_alone (H.opening h.old) (H.entries h.old)) chunk op x) }
 {

@@ -20,15 +20,15 @@ use Rattle.pf_core_model.specs.declared.view.View.{View}
 use Rattle.pf_core_model.specs.Lists.{In}
 use Rattle.pf_core_model.specs.Needs.{Passes}
 use Rattle.pf_core_model.specs.Core.{Opening, nodes_of}
-use Rattle.pf_core_model.specs.Guards.{IsMeshOf, IsJudged, HoldsCavity, IsViewPatch}
+use Rattle.pf_core_model.specs.Guards.{IsMeshOf, IsViewJudged, ViewHoldsCavity, IsViewPatch}
 use Rattle.pf_core_model.specs.State.{is_apex_held, can_judge, can_make, fresh_pairs}
 use Rattle.pf_core_model.proofs.Replays.{and_left, and_right}
 use Rattle.pf_core_model.proofs.Born.{contains_in}
 use Rattle.pf_core_model.proofs.Judged.{held_in, judged_is, can_judge_held, Made, made_is_of}
 use Rattle.pf_core_model.proofs.Owing.{fresh_nodes}
-use Rattle.pf_board_steps.specs.Plays.{at_ticket, IsSeen, CanMake, fresh_at}
+use Rattle.pf_board_steps.specs.Plays.{at_ticket, IsJudgedByStars, CanCommit, fresh_at}
 
-pub seen_judged : (v : View) (chunk : ℕ) (op : Op) (x : Option Cond) → IsSeen v chunk op x → IsJudged v chunk op x
+pub seen_judged : (v : View) (chunk : ℕ) (op : Op) (x : Option Cond) → IsJudgedByStars v chunk op x → IsViewJudged v chunk op x
 seen_judged v chunk op x seen m is =
     sym (judged_is m is.conforming v.held is.pairs chunk op seen.0) ∙ ap (λ (l : List Band). judged (star_held v.held) l chunk op) is.bands ∙ seen.1
 
@@ -44,7 +44,7 @@ all_held ps [] h n k = absurd k
 all_held ps (m ∷ ms) h n (inl e) = ap (λ (x : ℕ). is_held ps x) e ∙ and_left (is_held ps m) (list_all (is_held ps) ms) h
 all_held ps (m ∷ ms) h n (inr k) = all_held ps ms (and_right (is_held ps m) (list_all (is_held ps) ms) h) n k
 
-module _ (v : View) (e : Entry) (can : CanMake v e.chunk e.op) (m : Undivided) (is : IsMeshOf v m) where
+module _ (v : View) (e : Entry) (can : CanCommit v e.chunk e.op) (m : Undivided) (is : IsMeshOf v m) where
   able : can_judge v.held e.chunk e.op ≡ true
   able = can_judge_held m is.conforming v.held is.pairs e.chunk e.op can.0
 
@@ -74,7 +74,7 @@ module _ (v : View) (e : Entry) (can : CanMake v e.chunk e.op) (m : Undivided) (
   made_on : (t : ℕ) → IsFresh m t → Made m is.conforming v.held is.pairs m.first_new (at_ticket e t)
   made_on t fresh = made_is_of m is.conforming v.held is.pairs (opened m) (at_ticket e t) refl refl (λ passes. record { conforming = is.conforming; fresh = fresh; passes = passes }) makes_on
 
-pub made_patch : (v : View) (e : Entry) → CanMake v e.chunk e.op → IsJudged v e.chunk e.op None × HoldsCavity v e.chunk e.op × ((t : ℕ) → IsViewPatch v (at_ticket e t) (fresh_at v e t))
+pub made_patch : (v : View) (e : Entry) → CanCommit v e.chunk e.op → IsViewJudged v e.chunk e.op None × ViewHoldsCavity v e.chunk e.op × ((t : ℕ) → IsViewPatch v (at_ticket e t) (fresh_at v e t))
 made_patch v e can = (
   (λ m is. passes_on v e can m is),
   (λ m is. cavity_on v e can m is),

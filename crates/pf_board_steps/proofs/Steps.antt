@@ -24,7 +24,7 @@ use Rattle.pf_core_model.specs.Cavity.{makes_node, makes, is_made}
 use Rattle.pf_core_model.specs.Sharers.{sharers_in, kept_in}
 use Rattle.pf_core_model.specs.Moves.{locked, lost_to, found_dead, found_never, noted, refused, committed, unborn_by, born, released, spares_in, left_of, right_of, both_of, spent_view}
 use Rattle.pf_core_model.specs.Core.{Opening, names_of, mesh_after, held_by, number_of, nodes_of, Homes, Sound, IsSound}
-use Rattle.pf_core_model.specs.Guards.{IsMeshOf, IsJudged, HoldsCavity, IsViewPatch}
+use Rattle.pf_core_model.specs.Guards.{IsMeshOf, IsViewJudged, ViewHoldsCavity, IsViewPatch}
 use Rattle.pf_core_model.specs.Seats.{Knows}
 use Rattle.pf_core_model.proofs.Lists.{total_at, at_set_here}
 use Rattle.pf_core_model.proofs.Replays.{star_after_is, replayed_more, conforms_after, replayed_chunks, makes_here, made_below}
@@ -139,7 +139,7 @@ module _ (o : Opening) (slots id : ℕ) (me : Mine) where
       stays s (names_of o) (Notes o (step slots (names_of o) 0 0 none) me) w after
       ((knows_after o s.words s.homes s.views id me.0 w at after actor, all_slots o slots s h long), counts o id me.0 s h at actor, refl)
 
-  pub refuses_step : (chunk : ℕ) (op : Op) (why : Cond) → me.0.numbers ≢ [] → IsJudged me.0 chunk op (Some why)
+  pub refuses_step : (chunk : ℕ) (op : Op) (why : Cond) → me.0.numbers ≢ [] → IsViewJudged me.0 chunk op (Some why)
       → Allows (Holds o) slots id me (names_of o) (λ x. x) (Refuses o chunk op why (step slots (names_of o) 0 0 none) me)
   refuses_step chunk op why actor judged s h long at small =
       let log = h.0 in
@@ -159,7 +159,7 @@ module _ (o : Opening) (slots id : ℕ) (me : Mine) where
       (born me.0, keeps, tt, after, ((knows_after o _ _ s.views id me.0 (born me.0) at after actor, all_slots o slots s h long), refl))
 
   pub commits_step : (e : Entry) (fresh : ℕ → List Held) → me.0.numbers ≢ [] → me.0.unborn ≡ None → 0 < me.0.allowance
-      → IsJudged me.0 e.chunk e.op None → HoldsCavity me.0 e.chunk e.op → ((t : ℕ) → IsViewPatch me.0 (at_ticket e t) (fresh t))
+      → IsViewJudged me.0 e.chunk e.op None → ViewHoldsCavity me.0 e.chunk e.op → ((t : ℕ) → IsViewPatch me.0 (at_ticket e t) (fresh t))
       → Allows (Holds o) slots id me (names_of o) (λ x. (x + 1) % 2 ^ 64) (Commits o e fresh (step slots (names_of o) 1 0 none) me)
   commits_step e fresh actor clear rich judged cavity patch s h long at small =
       let log = h.0 in

@@ -16,11 +16,11 @@ use Rattle.pf_core_model.specs.Lists.{In}
 use Rattle.pf_core_model.specs.Sharers.{sharers_in}
 use Rattle.pf_core_model.specs.Moves.{spares_in, left_of, right_of, both_of, spent_view}
 use Rattle.pf_core_model.specs.Core.{Opening, names_of, mesh_after, held_by, number_of, nodes_of}
-use Rattle.pf_core_model.specs.Guards.{IsAlone, IsJudged, HoldsCavity, IsViewPatch}
+use Rattle.pf_core_model.specs.Guards.{IsAlone, IsViewJudged, ViewHoldsCavity, IsViewPatch}
 use Rattle.pf_core_model.specs.Seats.{own_log, IsWhole}
 use Rattle.pf_core_model.specs.State.{opening_state, first_view}
 use Rattle.pf_core_model.specs.Shown.{CanOpen}
-use Rattle.pf_board_steps.specs.Plays.{BoardState, Mine, Holds, Tries, Frees, Births, Notes, Refuses, at_ticket, Commits, IsSeen, CanMake, fresh_at}
+use Rattle.pf_board_steps.specs.Plays.{BoardState, Mine, Holds, Tries, Frees, Births, Notes, Refuses, at_ticket, Commits, IsJudgedByStars, CanCommit, fresh_at}
 
 -- a law over a seat of a board: its place among the seats, its view and its hands
 abbrev pub OverSeat : (Opening → ℕ → ℕ → Mine → Type 0) → Type 0
@@ -37,14 +37,14 @@ NoteIsStep = OverSeat (λ o slots id me. me.0.numbers ≢ [] → Allows (Holds o
 
 -- a refusal: the count is read, and the operation fails on each mesh that the view may be of
 abbrev pub RefusalIsStep : Type 0
-RefusalIsStep = OverSeat (λ o slots id me. (chunk : ℕ) (op : Op) (why : Cond) → me.0.numbers ≢ [] → IsJudged me.0 chunk op (Some why)
+RefusalIsStep = OverSeat (λ o slots id me. (chunk : ℕ) (op : Op) (why : Cond) → me.0.numbers ≢ [] → IsViewJudged me.0 chunk op (Some why)
     → Allows (Holds o) slots id me (names_of o) (λ x. x) (Refuses o chunk op why (step slots (names_of o) 0 0 none) me))
 
 -- a commit: one is added to the count of tickets. The operation passes on each mesh that the view may be of, its cavity is held, and the
 -- fresh pairs are what it makes of those held, whatever ticket is drawn
 abbrev pub CommitIsStep : Type 0
 CommitIsStep = OverSeat (λ o slots id me. (e : Entry) (fresh : ℕ → List Held) → me.0.numbers ≢ [] → me.0.unborn ≡ None → 0 < me.0.allowance
-    → IsJudged me.0 e.chunk e.op None → HoldsCavity me.0 e.chunk e.op → ((t : ℕ) → IsViewPatch me.0 (at_ticket e t) (fresh t))
+    → IsViewJudged me.0 e.chunk e.op None → ViewHoldsCavity me.0 e.chunk e.op → ((t : ℕ) → IsViewPatch me.0 (at_ticket e t) (fresh t))
     → Allows (Holds o) slots id me (names_of o) (λ x. (x + 1) % 2 ^ 64) (Commits o e fresh (step slots (names_of o) 1 0 none) me))
 
 -- a birth: the word of the unborn node becomes the seat's
@@ -86,8 +86,8 @@ BoardCloses = (o : Opening) (id : ℕ) (v : View) (words : List ℕ) (lists : Li
 
 -- what is seen to fail on the held stars fails on each mesh that the view may be of
 abbrev pub SeenIsJudged : Type 0
-SeenIsJudged = (v : View) (chunk : ℕ) (op : Op) (x : Option Cond) → IsSeen v chunk op x → IsJudged v chunk op x
+SeenIsJudged = (v : View) (chunk : ℕ) (op : Op) (x : Option Cond) → IsJudgedByStars v chunk op x → IsViewJudged v chunk op x
 
 -- what can be made from the held stars can be committed
 abbrev pub MadeIsPatch : Type 0
-MadeIsPatch = (v : View) (e : Entry) → CanMake v e.chunk e.op → IsJudged v e.chunk e.op None × HoldsCavity v e.chunk e.op × ((t : ℕ) → IsViewPatch v (at_ticket e t) (fresh_at v e t))
+MadeIsPatch = (v : View) (e : Entry) → CanCommit v e.chunk e.op → IsViewJudged v e.chunk e.op None × ViewHoldsCavity v e.chunk e.op × ((t : ℕ) → IsViewPatch v (at_ticket e t) (fresh_at v e t))

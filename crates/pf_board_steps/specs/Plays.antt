@@ -104,12 +104,12 @@ Commits o e fresh st v found w =
     × (w ≡ (committed v.0 (at_ticket e found) (fresh found) (unborn_by v.0.first_new (at_ticket e found)), cond (makes_node e.op) ((v.0.first_new + found, []) ∷ v.1) v.1))
 
 -- the operation can be judged from the held pairs of the view, and this is the first condition that it fails
-abbrev pub IsSeen : View → ℕ → Op → Option Cond → Type 0
-IsSeen v chunk op x = (can_judge v.held chunk op ≡ true) × (judged (star_held v.held) v.bands chunk op ≡ x)
+abbrev pub IsJudgedByStars : View → ℕ → Op → Option Cond → Type 0
+IsJudgedByStars v chunk op x = (can_judge v.held chunk op ≡ true) × (judged (star_held v.held) v.bands chunk op ≡ x)
 
 -- the view holds the cavity of an operation, which passes on the held stars
-abbrev pub CanMake : View → ℕ → Op → Type 0
-CanMake v chunk op = (list_all (is_held v.held) (cavity_seen (star_held v.held) op) ≡ true) × (judged (star_held v.held) v.bands chunk op ≡ None)
+abbrev pub CanCommit : View → ℕ → Op → Type 0
+CanCommit v chunk op = (list_all (is_held v.held) (cavity_seen (star_held v.held) op) ≡ true) × (judged (star_held v.held) v.bands chunk op ≡ None)
 
 -- the pairs that an entry with a ticket makes of those held, that of the new node in front
 abbrev pub fresh_at : View → Entry → ℕ → List Held

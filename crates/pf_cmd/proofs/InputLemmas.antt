@@ -12,7 +12,7 @@ use Rattle.pf_say.specs.declared.place.Place.TheVariants.{Node, Ele, Part, Size,
 use Rattle.pf_say.specs.declared.stop.Trouble.TheVariants.{Missing}
 use Rattle.pf_say.specs.declared.stop.Stop.TheVariants.{Input, Limit, Device}
 use Rattle.pf_say.specs.Place.{Stems, name_of}
-use Rattle.pf_cmd.specs.Input.{Held, files_in, without, is_place, file_of, bytes_in, within_limit}
+use Rattle.pf_cmd.specs.Input.{HeldFiles, files_in, without, is_place, file_of, bytes_in, within_limit}
 
 pub file_of-short : (place : Place) (bytes : List ℕ) → length bytes ≤ 268435456 → file_of place (Some bytes) ≡ Ok bytes
 file_of-short place bytes h = grind (arith, nat_tests)
@@ -48,11 +48,11 @@ itself OutJournal = refl
 itself OutRest = refl
 
 -- a file that is taken out is missing
-pub bytes_in-without : (place : Place) (files : Held) → bytes_in place (without place files) ≡ Err (Device (Missing place))
+pub bytes_in-without : (place : Place) (files : HeldFiles) → bytes_in place (without place files) ≡ Err (Device (Missing place))
 unfolding bytes_in
 bytes_in-without place files = ap (file_of place) (gone place files)
   where
-    gone : (place : Place) (files : Held) → without place files place ≡ None
+    gone : (place : Place) (files : HeldFiles) → without place files place ≡ None
     gone place files = rw (itself place) refl
 
 pub within_limit-small : {A : Type 0} (vertices operations : ℕ) (value : A) → vertices + operations ≤ 1048576 → within_limit vertices operations value ≡ Ok value

@@ -25,7 +25,7 @@ use Rattle.pf_say.specs.declared.stop.Stop.TheVariants.{Input, Limit, Operation,
 use Rattle.pf_say.specs.Place.{Stems, name_of}
 use Rattle.pf_say.specs.Stop.{memory_stop}
 use Rattle.pf_cmd.specs.Faults.{tri_stop, build_stop, table_stop, jour_stop, trace_stop}
-use Rattle.pf_cmd.specs.Input.{Held, files_in, without, ◌>>=◌, tri_accepted, build_accepted, table_accepted, jour_accepted, trace_accepted}
+use Rattle.pf_cmd.specs.Input.{HeldFiles, files_in, without, ◌>>=◌, tri_accepted, build_accepted, table_accepted, jour_accepted, trace_accepted}
 use Rattle.pf_cmd.specs.Causes.{IsOnlyRead, IsQuiet, IsAmong, IsCause, is_unread, is_missing, IsInner, Explains}
 
 pub before-trans : (old mid new : Option Files) → IsAsBefore old mid → IsAsBefore mid new → IsAsBefore old new
@@ -64,7 +64,7 @@ rose-earlier a b c l h = omega arith
 only-place : (q p : Place) → IsAmong q (p ∷ []) → q ≡ p
 only-place q p h = elim h [ inl e ↦ e | inr b ↦ absurd b ]
 
-cause-then : {A B : Type 0} (places places' : List Place) (old new : Seen) (stems : Stems) (reading : Held → Result A Stop) (next : Held → A → Result B Stop) (stop : Stop) → ((q : Place) → IsAmong q places → IsAmong q places') → IsCause places old new stems reading stop → IsCause places' old new stems (λ f. reading f >>= next f) stop
+cause-then : {A B : Type 0} (places places' : List Place) (old new : Seen) (stems : Stems) (reading : HeldFiles → Result A Stop) (next : HeldFiles → A → Result B Stop) (stop : Stop) → ((q : Place) → IsAmong q places → IsAmong q places') → IsCause places old new stems reading stop → IsCause places' old new stems (λ f. reading f >>= next f) stop
 cause-then places places' old new stems reading next (Device (Unread q)) sub h = (sub q h.0, h.1, λ w. ap (λ r. r >>= next (without q (files_in old stems))) (h.2 w))
 cause-then places places' old new stems reading next (Device (Missing q)) sub h = (sub q h.0, h.1, λ w. ap (λ r. r >>= next (files_in old stems)) (h.2 w))
 cause-then places places' old new stems reading next (Device (Unwritten q)) sub h = h
@@ -74,10 +74,10 @@ cause-then places places' old new stems reading next (Limit count) sub h = λ w.
 cause-then places places' old new stems reading next (Operation ticket why) sub h = λ w. ap (λ r. r >>= next (files_in old stems)) (h w)
 
 -- a stop of a first step is one of the whole
-pub explains-then : {A B : Type 0} (places places' : List Place) (old new : Seen) (stems : Stems) (reading : Held → Result A Stop) (next : Held → A → Result B Stop) (stop : Stop) → ((q : Place) → IsAmong q places → IsAmong q places') → Explains places old new stems reading stop → Explains places' old new stems (λ f. reading f >>= next f) stop
+pub explains-then : {A B : Type 0} (places places' : List Place) (old new : Seen) (stems : Stems) (reading : HeldFiles → Result A Stop) (next : HeldFiles → A → Result B Stop) (stop : Stop) → ((q : Place) → IsAmong q places → IsAmong q places') → Explains places old new stems reading stop → Explains places' old new stems (λ f. reading f >>= next f) stop
 explains-then places places' old new stems reading next stop sub h = record { cause = cause-then places places' old new stems reading next stop sub h.cause; unread = h.unread; missing = h.missing }
 
-cause-later : {A B : Type 0} (places' : List Place) (p : Place) (old mid new : Seen) (stems : Stems) (reading : Held → Result A Stop) (x : A) (next : A → Held → Result B Stop) (stop : Stop) → ((f : Held) → reading (without p f) ≡ reading f) → IsAmong p places' → IsOnlyRead old mid → (Tells old.told → reading (files_in old stems) ≡ Ok x) → IsCause (p ∷ []) mid new stems (next x) stop → IsCause places' old new stems (λ f. reading f >>= (λ y. next y f)) stop
+cause-later : {A B : Type 0} (places' : List Place) (p : Place) (old mid new : Seen) (stems : Stems) (reading : HeldFiles → Result A Stop) (x : A) (next : A → HeldFiles → Result B Stop) (stop : Stop) → ((f : HeldFiles) → reading (without p f) ≡ reading f) → IsAmong p places' → IsOnlyRead old mid → (Tells old.told → reading (files_in old stems) ≡ Ok x) → IsCause (p ∷ []) mid new stems (next x) stop → IsCause places' old new stems (λ f. reading f >>= (λ y. next y f)) stop
 cause-later places' p old mid new stems reading x next (Device (Unread q)) apart among first ok h =
     let e = only-place q p h.0 in (
       subst (λ k. IsAmong k places') (sym e) among,
@@ -99,7 +99,7 @@ cause-later places' p old mid new stems reading x next (Limit count) apart among
 cause-later places' p old mid new stems reading x next (Operation ticket why) apart among first ok h = λ w. ap (λ r. r >>= (λ y. next y (files_in old stems))) (ok w) ∙ (ap (next x) (sym (files_in-before old mid stems first.files)) ∙ h (tells-before old.told mid.told first.files w))
 
 -- a stop of a later step that reads one file is one of the whole, where the steps before it don't read that file
-pub explains-later : {A B : Type 0} (places' : List Place) (p : Place) (old mid new : Seen) (stems : Stems) (reading : Held → Result A Stop) (x : A) (next : A → Held → Result B Stop) (stop : Stop) → ((f : Held) → reading (without p f) ≡ reading f) → IsAmong p places' → IsOnlyRead old mid → IsQuiet old mid → (Tells old.told → reading (files_in old stems) ≡ Ok x) → Explains (p ∷ []) mid new stems (next x) stop → Explains places' old new stems (λ f. reading f >>= (λ y. next y f)) stop
+pub explains-later : {A B : Type 0} (places' : List Place) (p : Place) (old mid new : Seen) (stems : Stems) (reading : HeldFiles → Result A Stop) (x : A) (next : A → HeldFiles → Result B Stop) (stop : Stop) → ((f : HeldFiles) → reading (without p f) ≡ reading f) → IsAmong p places' → IsOnlyRead old mid → IsQuiet old mid → (Tells old.told → reading (files_in old stems) ≡ Ok x) → Explains (p ∷ []) mid new stems (next x) stop → Explains places' old new stems (λ f. reading f >>= (λ y. next y f)) stop
 explains-later places' p old mid new stems reading x next stop apart among first quiet ok h =
     record {
       cause = cause-later places' p old mid new stems reading x next stop apart among first ok h.cause;
@@ -108,10 +108,10 @@ explains-later places' p old mid new stems reading x next stop apart among first
     }
 
 -- what is read later of files that are as before
-pub reads-later : {A : Type 0} (old mid : Seen) (stems : Stems) (reading : Held → Result A Stop) (x : A) → IsOnlyRead old mid → (Tells mid.told → reading (files_in mid stems) ≡ Ok x) → Tells old.told → reading (files_in old stems) ≡ Ok x
+pub reads-later : {A : Type 0} (old mid : Seen) (stems : Stems) (reading : HeldFiles → Result A Stop) (x : A) → IsOnlyRead old mid → (Tells mid.told → reading (files_in mid stems) ≡ Ok x) → Tells old.told → reading (files_in old stems) ≡ Ok x
 reads-later old mid stems reading x first h t = ap reading (sym (files_in-before old mid stems first.files)) ∙ h (tells-before old.told mid.told first.files t)
 
-explained-cause : {A : Type 0} (places : List Place) (old new : Seen) (stems : Stems) (reading : Held → Result A Stop) (stop : Stop) → IsInner stop → (stop ≢ memory_stop → Tells old.told → reading (files_in old stems) ≡ Err stop) → IsCause places old new stems reading stop
+explained-cause : {A : Type 0} (places : List Place) (old new : Seen) (stems : Stems) (reading : HeldFiles → Result A Stop) (stop : Stop) → IsInner stop → (stop ≢ memory_stop → Tells old.told → reading (files_in old stems) ≡ Err stop) → IsCause places old new stems reading stop
 explained-cause places old new stems reading (Device (Unread q)) i h = absurd i
 explained-cause places old new stems reading (Device (Missing q)) i h = absurd i
 explained-cause places old new stems reading (Device (Unwritten q)) i h = absurd i
@@ -121,7 +121,7 @@ explained-cause places old new stems reading (Limit count) i h = h (λ e. cc)
 explained-cause places old new stems reading (Operation ticket why) i h = h (λ e. cc)
 
 -- a stop that comes from values alone
-pub explained : {A : Type 0} (places : List Place) (old new : Seen) (stems : Stems) (reading : Held → Result A Stop) (stop : Stop) → IsInner stop → (stop ≢ memory_stop → Tells old.told → reading (files_in old stems) ≡ Err stop) → IsQuiet old new → Explains places old new stems reading stop
+pub explained : {A : Type 0} (places : List Place) (old new : Seen) (stems : Stems) (reading : HeldFiles → Result A Stop) (stop : Stop) → IsInner stop → (stop ≢ memory_stop → Tells old.told → reading (files_in old stems) ≡ Err stop) → IsQuiet old new → Explains places old new stems reading stop
 explained places old new stems reading stop i h quiet =
     record {
       cause = explained-cause places old new stems reading stop i h;
@@ -130,7 +130,7 @@ explained places old new stems reading stop i h quiet =
     }
 
 -- want of memory needs no cause
-pub memory-explains : {A : Type 0} (places : List Place) (old new : Seen) (stems : Stems) (reading : Held → Result A Stop) (stop : Stop) → stop ≡ memory_stop → IsQuiet old new → Explains places old new stems reading stop
+pub memory-explains : {A : Type 0} (places : List Place) (old new : Seen) (stems : Stems) (reading : HeldFiles → Result A Stop) (stop : Stop) → stop ≡ memory_stop → IsQuiet old new → Explains places old new stems reading stop
 memory-explains places old new stems reading stop e quiet = explained places old new stems reading stop (subst IsInner (sym e) tt) (λ ne. absurd (ne e)) quiet
 
 pub tri_stop-inner : (place : Place) (fault : TriErr) → IsInner (tri_stop place fault)

@@ -8,7 +8,7 @@ use Rattle.pf_say.specs.declared.stop.Trouble.TheVariants.{Missing, Unread, Unwr
 use Rattle.pf_say.specs.declared.stop.Stop.{Stop}
 use Rattle.pf_say.specs.declared.stop.Stop.TheVariants.{Device}
 use Rattle.pf_say.specs.Place.{Stems}
-use Rattle.pf_cmd.specs.Input.{Held, files_in, without}
+use Rattle.pf_cmd.specs.Input.{HeldFiles, files_in, without}
 
 -- the files are as before, no count has fallen, and no write has failed
 pub record IsOnlyRead (old new : Seen) : Type 0 where
@@ -29,7 +29,7 @@ IsAmong place (first ∷ places) = (place ≡ first) ⊎ IsAmong place places
 
 -- Why a reading of these places stopped. A read failed: with the named file taken out, the reading stops there, as it
 -- isn't held. The named file wasn't there. Memory ran out. Or the files say so.
-abbrev pub IsCause : {A : Type 0} → List Place → Seen → Seen → Stems → (Held → Result A Stop) → Stop → Type 0
+abbrev pub IsCause : {A : Type 0} → List Place → Seen → Seen → Stems → (HeldFiles → Result A Stop) → Stop → Type 0
 IsCause places old new stems reading (Device (Unread place)) = IsAmong place places × Rose old.read_faults new.read_faults × (Tells old.told → reading (without place (files_in old stems)) ≡ Err (Device (Missing place)))
 IsCause places old new stems reading (Device (Missing place)) = IsAmong place places × Rose old.misses new.misses × (Tells old.told → reading (files_in old stems) ≡ Err (Device (Missing place)))
 IsCause places old new stems reading (Device (Unwritten place)) = ⊥
@@ -47,7 +47,7 @@ is_missing (Device (Missing place)) = true
 is_missing stop = false
 
 -- what happened between two moments of a shelf explains why the reading stopped, and a fault that was counted is the reason
-pub record Explains {A : Type 0} (places : List Place) (old new : Seen) (stems : Stems) (reading : Held → Result A Stop) (stop : Stop) : Type 0 where
+pub record Explains {A : Type 0} (places : List Place) (old new : Seen) (stems : Stems) (reading : HeldFiles → Result A Stop) (stop : Stop) : Type 0 where
   pub cause : IsCause places old new stems reading stop
   pub unread : old.read_faults < new.read_faults → is_unread stop ≡ true
   pub missing : old.misses < new.misses → is_missing stop ≡ true

@@ -24,7 +24,7 @@ use Rattle.pf_say.specs.declared.stop.Stop.TheVariants.{Operation}
 use Rattle.pf_say.specs.Place.{Stems, name_of}
 use Rattle.pf_cmd.specs.declared.words.Task.{Task}
 use Rattle.pf_cmd.specs.declared.words.Task.TheVariants as act
-use Rattle.pf_cmd.specs.Input.{Held, ◌>>=◌, Numbered, Partitioned, numbered_in, entries_in, partitioned_in, said_in, within_limit}
+use Rattle.pf_cmd.specs.Input.{HeldFiles, ◌>>=◌, Numbered, Partitioned, numbered_in, entries_in, partitioned_in, said_in, within_limit}
 use Rattle.pf_cmd.specs.Output.{NamedText, Given, written_to}
 
 -- a command: what is to be done, with which stems, and what coordinates are multiplied by
@@ -65,13 +65,13 @@ abbrev pub IsScaled : Command → Type 0
 IsScaled command = (1 ≤ command.scale) × (command.scale ≤ 1048576)
 
 -- the numbers of a task are in range: there are 1 to 64 workers, and a grid has 1 to 64 cells a side
-abbrev pub IsBounded : Task → Type 0
-IsBounded (act.Adapt workers ops turns) = (1 ≤ workers) × (workers ≤ 64)
-IsBounded act.Replay = Unit {0}
-IsBounded act.Check = Unit {0}
-IsBounded act.Chunks = Unit {0}
-IsBounded act.Trace = Unit {0}
-IsBounded (act.Demo cells) = (1 ≤ cells) × (cells ≤ 64)
+abbrev pub IsTaskBounded : Task → Type 0
+IsTaskBounded (act.Adapt workers ops turns) = (1 ≤ workers) × (workers ≤ 64)
+IsTaskBounded act.Replay = Unit {0}
+IsTaskBounded act.Check = Unit {0}
+IsTaskBounded act.Chunks = Unit {0}
+IsTaskBounded act.Trace = Unit {0}
+IsTaskBounded (act.Demo cells) = (1 ≤ cells) × (cells ≤ 64)
 
 -- what a replay works on: a mesh, the number of the first node in its files, and the journal
 pub record Journalled : Type 0 where
@@ -92,7 +92,7 @@ abbrev pub passed : {A : Type 0} → Option FirstRefusal → A → Result A Stop
 passed None value = Ok value
 passed (Some refusal) value = Err (refusal_stop refusal)
 
-unfoldable pub journalled_in : ℕ → Held → Result Journalled Stop
+unfoldable pub journalled_in : ℕ → HeldFiles → Result Journalled Stop
 journalled_in scale files = do
   read ← numbered_in scale files
   entries ← entries_in read.mesh.first_new files
@@ -110,14 +110,14 @@ pub record Budgeted : Type 0 where
   pub mesh : Undivided
   pub budget : ℕ
 
-unfoldable pub budgeted_in : Option ℕ → ℕ → Held → Result Budgeted Stop
+unfoldable pub budgeted_in : Option ℕ → ℕ → HeldFiles → Result Budgeted Stop
 budgeted_in ops scale files = do
   read ← numbered_in scale files
   budget ← within_limit read.mesh.first_new (budget_of ops read.mesh.first_new) (budget_of ops read.mesh.first_new)
   Ok record { base = read.base; mesh = read.mesh; budget = budget }
 
 -- what a chunk list is of: a mesh with its chunks
-unfoldable pub divided_in : ℕ → Held → Result Undivided Stop
+unfoldable pub divided_in : ℕ → HeldFiles → Result Undivided Stop
 divided_in scale files = do
   parted ← partitioned_in scale files
   Ok (with_tables_of parted.listed.triangles parted.parts.owners parted.parts.chunks parted.listed.mesh.bands parted.listed.mesh)
@@ -127,7 +127,7 @@ pub record Traced : Type 0 where
   pub mesh : Undivided
   pub said : Told
 
-unfoldable pub traced_in : ℕ → Held → Result Traced Stop
+unfoldable pub traced_in : ℕ → HeldFiles → Result Traced Stop
 traced_in scale files = do
   read ← numbered_in scale files
   said ← said_in read.mesh.first_new read.mesh.chunks files
@@ -149,7 +149,7 @@ pub data Input : Type 0 where
   to_show : ℕ → Input
 
 -- what a command works on, by its files as they are, or their first refusal in the order of reading
-abbrev pub task_input : Task → ℕ → Held → Result Input Stop
+abbrev pub task_input : Task → ℕ → HeldFiles → Result Input Stop
 task_input (act.Adapt workers ops turns) scale files = do
   input ← budgeted_in ops scale files
   Ok (to_adapt input)
@@ -167,7 +167,7 @@ task_input act.Trace scale files = do
   Ok (to_trace input)
 task_input (act.Demo cells) scale files = Ok (to_show cells)
 
-abbrev pub input_in : Command → Held → Result Input Stop
+abbrev pub input_in : Command → HeldFiles → Result Input Stop
 input_in command files = task_input command.task command.scale files
 
 -- the texts of a mesh after so many operations, and what is said of it

@@ -28,11 +28,11 @@ use Rattle.pf_say.specs.Place.{Stems, name_of}
 use Rattle.pf_cmd.specs.Faults.{tri_stop, build_stop, table_stop, jour_stop, trace_stop}
 
 -- the files of a command by their places: the bytes of each, and none where it isn't held
-abbrev pub Held : Type 0
-Held = Place → Option (List ℕ)
+abbrev pub HeldFiles : Type 0
+HeldFiles = Place → Option (List ℕ)
 
 -- the files that a shelf tells, under the names that the stems give
-abbrev pub files_in : Seen → Stems → Held
+abbrev pub files_in : Seen → Stems → HeldFiles
 files_in shelf stems place = held shelf.told (name_of stems place)
 
 -- the two places are one
@@ -51,7 +51,7 @@ is_place OutRest OutRest = true
 is_place place other = false
 
 -- the same files, but the one of this place isn't held
-abbrev pub without : Place → Held → Held
+abbrev pub without : Place → HeldFiles → HeldFiles
 without place files other = if is_place other place then None else files other
 
 -- a step, and what comes after it where the run doesn't stop
@@ -65,7 +65,7 @@ abbrev pub file_of : Place → Option (List ℕ) → Result (List ℕ) Stop
 file_of place None = Err (Device (Missing place))
 file_of place (Some bytes) = if nat_lt 268435456 (length bytes) then Err (Input place TooLong) else Ok bytes
 
-unfoldable pub bytes_in : Place → Held → Result (List ℕ) Stop
+unfoldable pub bytes_in : Place → HeldFiles → Result (List ℕ) Stop
 bytes_in place files = file_of place (files place)
 
 -- what a file of nodes or triangles says
@@ -74,13 +74,13 @@ tri_accepted place (Ok value) = Ok value
 tri_accepted place (Err fault) = Err (tri_stop place fault)
 
 -- the vertices
-unfoldable pub vertices_in : ℕ → Held → Result Vertices Stop
+unfoldable pub vertices_in : ℕ → HeldFiles → Result Vertices Stop
 vertices_in scale files = do
   bytes ← bytes_in Node files
   tri_accepted Node (node_read scale bytes)
 
 -- the triangles over these vertices
-unfoldable pub triangles_in : Vertices → Held → Result (List (List ℕ)) Stop
+unfoldable pub triangles_in : Vertices → HeldFiles → Result (List (List ℕ)) Stop
 triangles_in vertices files = do
   bytes ← bytes_in Ele files
   tri_accepted Ele (ele_read vertices.base (length vertices.points) bytes)
@@ -97,7 +97,7 @@ pub record Listed : Type 0 where
   pub triangles : List (List ℕ)
 
 -- the mesh of the two files
-unfoldable pub mesh_in : ℕ → Held → Result Listed Stop
+unfoldable pub mesh_in : ℕ → HeldFiles → Result Listed Stop
 mesh_in scale files = do
   vertices ← vertices_in scale files
   triangles ← triangles_in vertices files
@@ -110,13 +110,13 @@ table_accepted place (Ok value) = Ok value
 table_accepted place (Err fault) = Err (table_stop place fault)
 
 -- the chunks of so many triangles
-unfoldable pub parts_in : ℕ → Held → Result PartTable Stop
+unfoldable pub parts_in : ℕ → HeldFiles → Result PartTable Stop
 parts_in triangles files = do
   bytes ← bytes_in Part files
   table_accepted Part (part_of triangles bytes)
 
 -- the wanted lengths
-unfoldable pub bands_in : Held → Result (List Band) Stop
+unfoldable pub bands_in : HeldFiles → Result (List Band) Stop
 bands_in files = do
   bytes ← bytes_in Size files
   table_accepted Size (size_of bytes)
@@ -126,7 +126,7 @@ pub record Partitioned : Type 0 where
   pub listed : Listed
   pub parts : PartTable
 
-unfoldable pub partitioned_in : ℕ → Held → Result Partitioned Stop
+unfoldable pub partitioned_in : ℕ → HeldFiles → Result Partitioned Stop
 partitioned_in scale files = do
   listed ← mesh_in scale files
   parts ← parts_in (length listed.triangles) files
@@ -137,7 +137,7 @@ pub record Numbered : Type 0 where
   pub base : ℕ
   pub mesh : Undivided
 
-unfoldable pub numbered_in : ℕ → Held → Result Numbered Stop
+unfoldable pub numbered_in : ℕ → HeldFiles → Result Numbered Stop
 numbered_in scale files = do
   parted ← partitioned_in scale files
   bands ← bands_in files
@@ -154,7 +154,7 @@ within_limit vertices operations value = if nat_le (vertices + operations) 10485
 
 -- the journal for a mesh of so many vertices
 
-unfoldable pub entries_in : ℕ → Held → Result (List Entry) Stop
+unfoldable pub entries_in : ℕ → HeldFiles → Result (List Entry) Stop
 entries_in vertices files = do
   bytes ← bytes_in Journal files
   entries ← jour_accepted (journal_of bytes)
@@ -166,7 +166,7 @@ trace_accepted (Ok said) = Ok said
 trace_accepted (Err fault) = Err (trace_stop fault)
 
 -- the trace over a mesh of so many vertices and so many chunks
-unfoldable pub said_in : ℕ → ℕ → Held → Result Told Stop
+unfoldable pub said_in : ℕ → ℕ → HeldFiles → Result Told Stop
 said_in vertices chunks files = do
   bytes ← bytes_in Trace files
   trace_accepted (trace_of vertices chunks bytes)

@@ -52,7 +52,7 @@ pub record IsPerformed (words : List (List ℕ)) (old new : Seen) (silent heard 
   pub said : heard.told ≡ extended silent.told report
 
 -- the line of this reason was said
-pub record IsTold (words : List (List ℕ)) (silent heard : Heard) (command : Command) (stop : Stop) : Type 0 where
+pub record IsStopTold (words : List (List ℕ)) (silent heard : Heard) (command : Command) (stop : Stop) : Type 0 where
   pub asked : command_in words ≡ Some command
   pub said : heard.told ≡ extended silent.told (line_of command.stems stop)
 
@@ -62,7 +62,7 @@ pub record IsRefusal (words : List (List ℕ)) (old : Seen) (silent heard : Hear
   pub stop : Stop
   pub refusal : input_in command (files_in old command.stems) ≡ Err stop
   pub status : status_of stop ≡ result
-  pub line : IsTold words silent heard command stop
+  pub line : IsStopTold words silent heard command stop
 
 -- at 3: a read failed, and the line names a file that the command reads. Where the shelf tells, every file before it is held,
 -- and the input has no refusal before it: with the file taken out, its first refusal is that the file isn't held
@@ -72,7 +72,7 @@ pub record IsUnread (words : List (List ℕ)) (old new : Seen) (silent heard : H
   pub fault : Rose old.read_faults new.read_faults
   pub reads : IsAmong place (reads_of command.task)
   pub reached : Tells old.told → input_in command (without place (files_in old command.stems)) ≡ Err (Device (Missing place))
-  pub line : IsTold words silent heard command (Device (Unread place))
+  pub line : IsStopTold words silent heard command (Device (Unread place))
 
 -- at 7: a name wasn't there, and the line names a file that the command reads
 pub record IsMissed (words : List (List ℕ)) (old new : Seen) (silent heard : Heard) : Type 0 where
@@ -80,12 +80,12 @@ pub record IsMissed (words : List (List ℕ)) (old new : Seen) (silent heard : H
   pub place : Place
   pub miss : Rose old.misses new.misses
   pub reads : IsAmong place (reads_of command.task)
-  pub line : IsTold words silent heard command (Device (Missing place))
+  pub line : IsStopTold words silent heard command (Device (Missing place))
 
 -- at 4: the sink failed, and gained a prefix of the text that was due; or a file wasn't written, and the line names it
 pub data IsUnfinished (words : List (List ℕ)) (old new : Seen) (silent heard : Heard) : Type 0 where
   unsaid : (status : ℕ) (text : List ℕ) → Due words old new status text → Rose silent.faults heard.faults → GainsPrefix text silent.told heard.told → IsUnfinished words old new silent heard
-  unwritten : (command : Command) (place : Place) → Rose old.write_faults new.write_faults → IsHalted command old new place → IsTold words silent heard command (Device (Unwritten place)) → IsUnfinished words old new silent heard
+  unwritten : (command : Command) (place : Place) → Rose old.write_faults new.write_faults → IsHalted command old new place → IsStopTold words silent heard command (Device (Unwritten place)) → IsUnfinished words old new silent heard
 
 -- no read and no write on the sink has failed
 pub record AllowsRefusal (old new : Seen) (silent heard : Heard) : Type 0 where

@@ -9,7 +9,7 @@ use Rattle.pf_cmd.specs.declared.input.Partitioned.{Partitioned as CodedParted}
 use Rattle.pf_cmd.specs.declared.input.Budgeted.{Budgeted as CodedBudgeted}
 use Rattle.pf_cmd.specs.declared.adapt.Refined.{Refined as CodedRefined}
 use Rattle.pf_cmd.specs.declared.replay.Replayed.{Replayed as CodedReplayed}
-use Rattle.pf_cmd.specs.Input.{Held, Partitioned}
+use Rattle.pf_cmd.specs.Input.{HeldFiles, Partitioned}
 use Rattle.pf_cmd.specs.Commands.{Command, Budgeted, budgeted_in, Journalled, journalled_in, Traced, traced_in}
 use Rattle.trace_text.specs.Verdicts.{answer_text}
 
@@ -26,7 +26,7 @@ abbrev pub budgeted_of : CodedBudgeted → Budgeted
 budgeted_of read = record { base = read.base; mesh = read.mesh.mesh; budget = read.budget }
 
 -- a mesh that was adapted, as what it was before
-pub record IsRefined (ops : Option ℕ) (scale : ℕ) (files : Held) (after : CodedRefined) : Type 0 where
+pub record IsRefined (ops : Option ℕ) (scale : ℕ) (files : HeldFiles) (after : CodedRefined) : Type 0 where
   pub input : Budgeted
   pub is_input : budgeted_in ops scale files ≡ Ok input
   pub adapted : IsAdapted input.mesh input.budget after.adapted.journal.items
@@ -34,7 +34,7 @@ pub record IsRefined (ops : Option ℕ) (scale : ℕ) (files : Held) (after : Co
   pub mesh : after.adapted.mesh.mesh ≡ replayed input.mesh after.adapted.journal.items
 
 -- a mesh after its journal, as what it was before
-pub record IsReplayed (scale : ℕ) (files : Held) (after : CodedReplayed) : Type 0 where
+pub record IsReplayed (scale : ℕ) (files : HeldFiles) (after : CodedReplayed) : Type 0 where
   pub input : Journalled
   pub is_input : journalled_in scale files ≡ Ok input
   pub legal : IsLegal input.mesh input.entries
@@ -43,7 +43,7 @@ pub record IsReplayed (scale : ℕ) (files : Held) (after : CodedReplayed) : Typ
   pub operations : after.operations ≡ length input.entries
 
 -- the text that the trace of the files is answered by
-pub record IsTraced (scale : ℕ) (files : Held) (text : List ℕ) : Type 0 where
+pub record IsTraced (scale : ℕ) (files : HeldFiles) (text : List ℕ) : Type 0 where
   pub input : Traced
   pub is_input : traced_in scale files ≡ Ok input
   pub answer : text ≡ answer_text input.mesh input.said

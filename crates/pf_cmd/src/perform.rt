@@ -3,7 +3,7 @@ ghost use Rattle.std.specs.Prelude.{◌≡◌, ◌≢◌, ◌≤◌, List, ℕ, 
 ghost use Rattle.pf_shelf.specs.Files.{held};
 ghost use Rattle.pf_say.specs.Place.{name_of};
 ghost use Rattle.pf_say.specs.Shown.{stems_of};
-ghost use Rattle.pf_cmd.specs.Commands.{IsScaled, IsBounded, IsUnnamed};
+ghost use Rattle.pf_cmd.specs.Commands.{IsScaled, IsTaskBounded, IsUnnamed};
 ghost use Rattle.pf_cmd.specs.Ends.{Finishes, Stops};
 ghost use Rattle.pf_cmd.specs.Shown.{shown};
 
@@ -32,7 +32,7 @@ pub(crate) fn perform<R: Threads + Sync, S: Shelf, G: Gate + Sync>(
     gate: &G,
 ) -> Result<Vec<u8>, Stop>
     requires scaled { IsScaled (shown command) }
-    requires bounded { IsBounded command.task }
+    requires bounded { IsTaskBounded command.task }
     ensures done { IfOk result (λ report.
         Finishes (shown command.entry) (S.seen shelf.old) (S.seen shelf.new) report.items) }
     ensures stops { IfErr result (Stops (shown command.entry) (S.seen shelf.old) (S.seen shelf.new)) }

@@ -4,7 +4,7 @@ ghost use Rattle.std.specs.Option.{option_map};
 ghost use Rattle.pf_words.specs.Grammar.{texts_of, IsBounded as IsWithin};
 ghost use Rattle.pf_words.specs.Shown.{shown as asked_by};
 ghost use Rattle.pf_cmd.specs.Words.{command_for, command_in};
-ghost use Rattle.pf_cmd.specs.Commands.{IsScaled, IsBounded};
+ghost use Rattle.pf_cmd.specs.Commands.{IsScaled, IsTaskBounded};
 ghost use Rattle.pf_cmd.specs.Shown.{shown};
 
 use pf_geom::NoMemory;
@@ -51,7 +51,7 @@ pub(crate) fn command_in<'a>(
 ) -> Result<Option<Command<'a>>, NoMemory>
     ensures command { IfOk result (λ asked. option_map shown asked ≡ command_in (texts_of words.entry.now)) }
     ensures scaled { IfOk result (λ asked. IfSome asked (λ command. IsScaled (shown command))) }
-    ensures bounded { IfOk result (λ asked. IfSome asked (λ command. IsBounded command.task)) }
+    ensures bounded { IfOk result (λ asked. IfSome asked (λ command. IsTaskBounded command.task)) }
 {
     match pf_words::read(alloc, words)? {
         Some(asked) => Ok(Some(command_for(asked))),
@@ -64,7 +64,7 @@ fn command_for<'a>(asked: Words<'a>) -> Command<'a>
     requires { IsWithin (asked_by asked) }
     ensures command { shown result ≡ command_for (asked_by asked.entry) }
     ensures scaled { IsScaled (shown result) }
-    ensures bounded { IsBounded result.task }
+    ensures bounded { IsTaskBounded result.task }
 {
     match asked {
         Words::Adapt {

@@ -10,8 +10,8 @@ ghost use Rattle.pf_rules.specs.Star.{IsSpokePlaced};
 
 use pf_model::{Band, Spoke};
 use pf_rings::is_near;
-use pf_spokes::lesser_of;
 use pf_rules::lengths::{Placed, is_long_between};
+use pf_spokes::lesser_of;
 
 // Whether the edge from `v`, with these spokes `around`, to `x` would be new, and is too long.
 fn is_far(bands: &[Band], v: Placed, around: &[Spoke], x: Placed) -> bool

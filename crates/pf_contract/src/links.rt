@@ -4,9 +4,9 @@ ghost use Rattle.pf_model.specs.Rows.{is_link_node, least_that, lesser, neighbou
 
 use pf_model::Spoke;
 use pf_rings::is_near;
-use pf_spokes::lesser_of;
 use pf_rules::edge_sides::EdgeSides;
 use pf_sight::is_apex;
+use pf_spokes::lesser_of;
 
 // Whether the node is a neighbour of the node with these spokes, and no apex of the edge.
 fn is_link(sides: EdgeSides, around: &[Spoke], x: u32) -> bool

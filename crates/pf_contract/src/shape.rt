@@ -7,9 +7,9 @@ ghost use Rattle.pf_star_model.specs.Lent.{sight_of};
 ghost use Rattle.pf_rules.specs.Contract.{IsShape};
 
 use pf_rings::Star;
-use pf_spokes::{first_right, last_left};
 use pf_rules::contract::{StarShape, is_flat};
 use pf_sight::place_in;
+use pf_spokes::{first_right, last_left};
 
 // Whether the star's path, with these ends, bends at `u`.
 fn is_bent(star: &Star, u: u32, first: Option<u32>, last: u32) -> bool

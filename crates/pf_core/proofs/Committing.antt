@@ -40,7 +40,7 @@ use Rattle.pf_core_model.specs.Moves.{committed, unborn_by}
 use Rattle.pf_core_model.specs.Needs.{Passes}
 use Rattle.pf_core_model.specs.Same.{same_star}
 use Rattle.pf_core_model.specs.Core.{Opening, names_of, held_by, number_of, nodes_in, nodes_of, mesh_after, Sound}
-use Rattle.pf_core_model.specs.Shown.{HasGrown}
+use Rattle.pf_core_model.specs.Shown.{IsExtended}
 use Rattle.pf_core_model.specs.State.{Actor, CoreState, Found, found_from, views_of, homes_of, view_in, is_clear, tickets_in, log_of, mesh_of, new_pairs, fresh_pairs, owed_after, is_nil, is_apex_held, can_judge, can_make, commit_state, IsCore}
 use Rattle.pf_core_model.proofs.Lists.{at_last, at_map, in_mapped, in_map, at_set_here, in_none, in_either, in_left, in_right, total_at}
 use Rattle.pf_core_model.proofs.Replays.{and_left, and_right, or_cases, replayed_more, legal_more, replayed_first_new, replayed_bands, replayed_chunks, star_after_is, passes_after, made_name, made_below, conforms_after}
@@ -61,7 +61,7 @@ use Rattle.pf_core.specs.Tables.{node_at, seat_at, code_in, list_in, is_clear_se
 use Rattle.pf_core.specs.Gates.{can_make_by, can_commit, IsShownTo}
 use Rattle.pf_dues.specs.Owed.{owed_all}
 use Rattle.pf_core.specs.Making.{starred, absent_by, born_by, count_by, committed_seat}
-use Rattle.pf_core.specs.Shown.{ShowsSeat, ShowsState, IsShown as IsSome, IsAct}
+use Rattle.pf_core.specs.Shown.{ShowsSeat, ShowsState, IsShownState as IsSome, IsAct}
 use Rattle.pf_core.proofs.Kept.{IsActor, sound, names, tickets_are, codes_next, at, acts, own, seat, lead_is, mine, fits, clear_is, held_near, pair_of, star_is, holds_is, seen_held, acted_core, acted_grows, eq_true, eq_false, lt_is, both_ways}
 use Rattle.pf_core.proofs.Moves.{IsOf, refused, taken, core_taken, grows_taken, other_node, put_shows}
 use Rattle.pf_core.proofs.Noting.{held_fun, star_fun, held_of, seen_of, shown_to, judged_is}
@@ -485,7 +485,7 @@ module _ (o : Opening) (c : CoreState) (s : State) (sh : ShowsState o c s) (a ch
 
     pub commit_shows : (t : State) (name : ℕ) → name ≡ o.mesh.first_new + tickets_in o c → IsOf s t → t.log.items ≡ s.log.items ++ record { ticket = tickets_in o c; chunk = chunk; op = op } ∷ []
         → t.nodes.items ≡ starred patch s.nodes.items → t.seats.items ≡ set s.seats.items a (committed_seat op name (owed_all (star_seen s.nodes.items s.seats.items a) patch) (seat_at s.seats.items a))
-        → IsCore o (commit_state o c f (record { ticket = tickets_in o c; chunk = chunk; op = op })) → HasGrown (log_of o c) (log_of o (commit_state o c f (record { ticket = tickets_in o c; chunk = chunk; op = op })))
+        → IsCore o (commit_state o c f (record { ticket = tickets_in o c; chunk = chunk; op = op })) → IsExtended (log_of o c) (log_of o (commit_state o c f (record { ticket = tickets_in o c; chunk = chunk; op = op })))
         → ShowsState o (commit_state o c f (record { ticket = tickets_in o c; chunk = chunk; op = op })) t
     commit_shows t name is of log nodes seats core' grown =
         let e : Entry = record { ticket = tickets_in o c; chunk = chunk; op = op } in

@@ -18,7 +18,7 @@ use Rattle.pf_core_model.specs.declared.sharer.Sharer.{Sharer}
 use Rattle.pf_core_model.specs.declared.view.View.{View}
 use Rattle.pf_core_model.specs.Lists.{In, times, total, Each}
 use Rattle.pf_core_model.specs.Core.{Opening, names_of, held_by, number_of, nodes_in, nodes_of, Fits, Sound}
-use Rattle.pf_core_model.specs.Shown.{HasGrown}
+use Rattle.pf_core_model.specs.Shown.{IsExtended}
 use Rattle.pf_core_model.specs.State.{Actor, CoreState, Found, leads, found_from, view_in, views_of, homes_of, list_at, tickets_in, word_of, log_of, is_nil, is_clear, owes_of, is_owed, acted, actor_of, by_actor, stepped, Stepped, IsCore}
 use Rattle.pf_core_model.proofs.Lists.{at_map, at_index, total_some, in_times, in_map, times_in, times_here}
 use Rattle.pf_core_model.proofs.Views.{apart, holder_of, one_number, first_in, node_in}
@@ -36,7 +36,7 @@ use Rattle.pf_core.specs.declared.word.Word.TheVariants.{Never}
 use Rattle.pf_core.specs.declared.tables.Node.{Node}
 use Rattle.pf_core.specs.declared.tables.Seat.{Seat}
 use Rattle.pf_core.specs.Tables.{word_code, no_node, node_at, seat_at, word_seen, code_seen, code_in, list_in, is_clear_seat, is_lead, is_this, holds, star_seen}
-use Rattle.pf_core.specs.Shown.{ShowsSeat, ShowsActor, ShowsState, IsShown}
+use Rattle.pf_core.specs.Shown.{ShowsSeat, ShowsActor, ShowsState, IsShownState}
 
 -- tests
 pub lt_true : (a b : ℕ) → a < b → nat_lt a b ≡ true
@@ -379,8 +379,8 @@ module _ (o : Opening) (c : CoreState) (s : State) (sh : ShowsState o c s) where
     pub acted_core : (e : Event) → actor_of e ≡ a → IsCore o (acted o c e f).state
     acted_core e is = subst (λ (x : Stepped). IsCore o x.state) (acted_is e is) (step_core keeps_outside o c sh.core e)
 
-    pub acted_grows : (e : Event) → actor_of e ≡ a → HasGrown (log_of o c) (log_of o (acted o c e f).state)
-    acted_grows e is = subst (λ (x : Stepped). HasGrown (log_of o c) (log_of o x.state)) (acted_is e is) (step_grows keeps_outside o c e sh.core)
+    pub acted_grows : (e : Event) → actor_of e ≡ a → IsExtended (log_of o c) (log_of o (acted o c e f).state)
+    acted_grows e is = subst (λ (x : Stepped). IsExtended (log_of o c) (log_of o x.state)) (acted_is e is) (step_grows keeps_outside o c e sh.core)
 
 -- an actor that is found, of a number that is an actor's
 pub record IsActor (s : State) (a : ℕ) : Type 0 where
@@ -393,7 +393,7 @@ pub record IsActor (s : State) (a : ℕ) : Type 0 where
 pub lead_near : (seats : List Seat) (a : ℕ) → is_lead seats a ≡ true → a < length seats
 lead_near seats a h = lt_is a (length seats) (and_left (nat_lt a (length seats)) ((seat_at seats a).lead == a) h)
 
-pub actor_of_lead : (s : State) (a : ℕ) → IsShown s → is_lead s.seats.items a ≡ true → IsActor s a
+pub actor_of_lead : (s : State) (a : ℕ) → IsShownState s → is_lead s.seats.items a ≡ true → IsActor s a
 actor_of_lead s a shown h = go (found_from a 0 shown.state.actors) refl
   where
     go : (x : Option Found) → found_from a 0 shown.state.actors ≡ x → IsActor s a
@@ -418,7 +418,7 @@ member : (q : ℕ) (xs : List ℕ) → list_any (eqb q) xs ≡ true → In q xs
 member q [] h = absurd (let z : false ≡ true = h in cc)
 member q (x ∷ xs) h = ⊎_elim (λ (e : (q == x) ≡ true). inl (eq_is q x e)) (λ (e : list_any (eqb q) xs ≡ true). inr (member q xs e)) (or_cases (q == x) (list_any (eqb q) xs) h)
 
-pub few_held : (s : State) (a : ℕ) → IsShown s → is_lead s.seats.items a ≡ true → (seat_at s.seats.items a).held ≤ 1048576
+pub few_held : (s : State) (a : ℕ) → IsShownState s → is_lead s.seats.items a ≡ true → (seat_at s.seats.items a).held ≤ 1048576
 few_held s a shown h =
     let r = actor_of_lead s a shown h in
     let sh : ShowsState r.opening r.state s = r.shown in

@@ -16,7 +16,7 @@ use Rattle.pf_core_model.specs.declared.sharer.Sharer.{Sharer}
 use Rattle.pf_core_model.specs.declared.view.View.{View}
 use Rattle.pf_core_model.specs.Lists.{In, Each}
 use Rattle.pf_core_model.specs.Core.{Opening, names_of, held_by, number_of, nodes_in, nodes_of}
-use Rattle.pf_core_model.specs.Shown.{HasGrown}
+use Rattle.pf_core_model.specs.Shown.{IsExtended}
 use Rattle.pf_core_model.specs.State.{Actor, CoreState, Found, found_from, views_of, homes_of, view_in, tickets_in, log_of, guarded, put, IsCore}
 use Rattle.pf_core_model.proofs.Lists.{at_map, at_index, set_again, each_set}
 use Rattle.pf_core_model.proofs.Views.{apart, one_number, first_in, node_in}
@@ -60,7 +60,7 @@ pub core_taken : (o : Opening) (c : CoreState) (g : Bool) (t : CoreState) (v : O
 core_taken o c true t v e k = k
 core_taken o c false t v e k = absurd (cc (e))
 
-pub grows_taken : (o : Opening) (c : CoreState) (g : Bool) (t : CoreState) (v : Option ℕ) → g ≡ true → HasGrown (log_of o c) (log_of o (guarded g c t v).state) → HasGrown (log_of o c) (log_of o t)
+pub grows_taken : (o : Opening) (c : CoreState) (g : Bool) (t : CoreState) (v : Option ℕ) → g ≡ true → IsExtended (log_of o c) (log_of o (guarded g c t v).state) → IsExtended (log_of o c) (log_of o t)
 grows_taken o c true t v e k = k
 grows_taken o c false t v e k = absurd (cc (e))
 
@@ -85,7 +85,7 @@ no_more : (xs : List Entry) → length xs ≡ 0 → xs ≡ []
 no_more [] e = refl
 no_more (x ∷ xs) e = absurd (omega arith)
 
-pub log_stays : (o : Opening) (c d : CoreState) → IsCore o c → IsCore o d → HasGrown (log_of o c) (log_of o d) → tickets_in o d ≡ tickets_in o c → log_of o d ≡ log_of o c
+pub log_stays : (o : Opening) (c d : CoreState) → IsCore o c → IsCore o d → IsExtended (log_of o c) (log_of o d) → tickets_in o d ≡ tickets_in o c → log_of o d ≡ log_of o c
 log_stays o c d k l grown same =
     let one = (shows_one_mesh o c k).long in
     let two = (shows_one_mesh o d l).long in
@@ -163,7 +163,7 @@ module _ (o : Opening) (c : CoreState) (s : State) (sh : ShowsState o c s) (a : 
       }
 
   -- a view that learns something, and changes nothing that is kept
-  pub learn_shows : (w : View) → IsCore o (put c f.place record { view = w; owed = f.actor.owed }) → HasGrown (log_of o c) (log_of o (put c f.place record { view = w; owed = f.actor.owed }))
+  pub learn_shows : (w : View) → IsCore o (put c f.place record { view = w; owed = f.actor.owed }) → IsExtended (log_of o c) (log_of o (put c f.place record { view = w; owed = f.actor.owed }))
       → w.numbers ≡ f.actor.view.numbers → w.allowance ≡ f.actor.view.allowance → w.held ≡ f.actor.view.held → w.unborn ≡ f.actor.view.unborn
       → ShowsState o (put c f.place record { view = w; owed = f.actor.owed }) s
   learn_shows w core' grown numbers allowance held unborn =

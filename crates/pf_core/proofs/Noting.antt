@@ -18,7 +18,7 @@ use Rattle.pf_core_model.specs.declared.event.Verdict.TheVariants.{Taken, Ignore
 use Rattle.pf_core_model.specs.Lists.{In}
 use Rattle.pf_core_model.specs.Moves.{seen_at, failed_at}
 use Rattle.pf_core_model.specs.Core.{Opening}
-use Rattle.pf_core_model.specs.Shown.{HasGrown}
+use Rattle.pf_core_model.specs.Shown.{IsExtended}
 use Rattle.pf_core_model.specs.State.{Actor, CoreState, Found, Stepped, found_from, tickets_in, log_of, mesh_of, can_judge, judge_step, note_state, refuse_state, IsCore}
 use Rattle.pf_core_model.proofs.Replays.{star_after_is}
 use Rattle.pf_core_model.proofs.StateLaws.{mesh_is}
@@ -99,7 +99,7 @@ module _ (o : Opening) (c : CoreState) (s : State) (sh : ShowsState o c s) (a : 
   refuse_false None e = (sh, refl)
   refuse_false (Some why) e = refused o c s sh (can_judge f.actor.view.held q.chunk q.op) (refuse_state c f (tickets_in o c) q.chunk q.op why) (Some (tickets_in o c)) (left_false (can_judge f.actor.view.held q.chunk q.op) e)
 
-  refuse_true : (x : Option Cond) → (can_judge f.actor.view.held q.chunk q.op && is_some x) ≡ true → IsCore o (step_at x).state → HasGrown (log_of o c) (log_of o (step_at x).state) → ShowsState o (step_at x).state s × (Taken (Some (tickets_in o c)) ≡ (step_at x).verdict)
+  refuse_true : (x : Option Cond) → (can_judge f.actor.view.held q.chunk q.op && is_some x) ≡ true → IsCore o (step_at x).state → IsExtended (log_of o c) (log_of o (step_at x).state) → ShowsState o (step_at x).state s × (Taken (Some (tickets_in o c)) ≡ (step_at x).verdict)
   refuse_true None e k g = absurd (right_true (can_judge f.actor.view.held q.chunk q.op) e)
   refuse_true (Some why) e k g =
       let able = left_part (can_judge f.actor.view.held q.chunk q.op) true e in

@@ -19,7 +19,7 @@ use Rattle.pf_core_model.specs.Lists.{In, times, total, Each}
 use Rattle.pf_core_model.specs.Moves.{spares_in, but_spare, left_of, right_of, both_of, spent_view}
 use Rattle.pf_core_model.specs.Core.{Opening, names_of, number_of, Sound}
 use Rattle.pf_core_model.specs.State.{Actor, CoreState, Found, found_from, views_of, homes_of, log_of, is_nil, is_number_in, is_clear, has_nothing, guarded, split_state, join_state, join_step, IsCore}
-use Rattle.pf_core_model.specs.Shown.{HasGrown}
+use Rattle.pf_core_model.specs.Shown.{IsExtended}
 use Rattle.pf_core_model.proofs.Lists.{at_set, at_snoc, each_set, total_some, total_at, total_two, times_in, times_here, in_times, in_either, in_spares, in_but_spare, spare_counts, first_stays, some_stay, first_of_both}
 use Rattle.pf_core_model.proofs.Replays.{and_left, and_right, or_cases}
 use Rattle.pf_core_model.proofs.Views.{first_in}
@@ -29,7 +29,7 @@ use Rattle.pf_core.specs.declared.tables.Node.{Node}
 use Rattle.pf_core.specs.declared.tables.Seat.{Seat}
 use Rattle.pf_core.specs.Tables.{no_seat, node_at, seat_at, code_in, list_in, is_lead, is_clear_seat, with_allowance, first_seat, led_by}
 use Rattle.pf_core.specs.Gates.{is_spare, can_split, has_none, can_join}
-use Rattle.pf_core.specs.Shown.{ShowsSeat, ShowsActor, ShowsState, IsShown, IsAct}
+use Rattle.pf_core.specs.Shown.{ShowsSeat, ShowsActor, ShowsState, IsShownState, IsAct}
 use Rattle.pf_core.proofs.Kept.{IsActor, actor_of_lead, sound, names, at, acts, own, has_number, near, seat, lead_is, mine, fits, clear_is, nothing_is, none_found, some_found, view_back, acted_core, acted_grows, lead_near, eq_is, eq_true, eq_false, lt_is, lt_true, both_ways}
 use Rattle.pf_core.proofs.Moves.{IsOf, refused, taken, core_taken, grows_taken, log_stays, other_number, other_numbers}
 
@@ -255,7 +255,7 @@ join_ignored s a b no_gate o c f sh found = go (found_from b 0 c.actors) refl
         (join_is o c s sh a b f g found e ∙ ap (λ (y : Bool). y && (not (a == b) && (has_none (seat_at s.seats.items a) && has_none (seat_at s.seats.items b)))) (sym lead) ∙ no_gate)
 
 -- two allowances fit together
-pub few_sum : (s : State) (a b : ℕ) → IsShown s → is_lead s.seats.items a ≡ true → can_join s.seats.items a b ≡ true → (seat_at s.seats.items a).allowance + (seat_at s.seats.items b).allowance ≤ 1048576
+pub few_sum : (s : State) (a b : ℕ) → IsShownState s → is_lead s.seats.items a ≡ true → can_join s.seats.items a b ≡ true → (seat_at s.seats.items a).allowance + (seat_at s.seats.items b).allowance ≤ 1048576
 few_sum s a b shown lead able =
     let r = actor_of_lead s a shown lead in
     let o : Opening = r.opening in
@@ -299,7 +299,7 @@ join_taken s t a b able of log nodes seats o c f sh found = go (found_from b 0 c
         let d : CoreState = join_state c f h in
         let step_is : guarded g c d None ≡ join_step c f (found_from b 0 c.actors) = ap (λ (x : Option Found). join_step c f x) (sym e) in
         let core' : IsCore o d = core_taken o c g d None gate (subst (λ y. IsCore o y.state) (sym step_is) (acted_core o c s sh a f found (Join a b) refl)) in
-        let grown : HasGrown (log_of o c) (log_of o d) = grows_taken o c g d None gate (subst (λ y. HasGrown (log_of o c) (log_of o y.state)) (sym step_is) (acted_grows o c s sh a f found (Join a b) refl)) in
+        let grown : IsExtended (log_of o c) (log_of o d) = grows_taken o c g d None gate (subst (λ y. IsExtended (log_of o c) (log_of o y.state)) (sym step_is) (acted_grows o c s sh a f found (Join a b) refl)) in
         let ne : a ≢ b = λ x. let z : true ≡ false = sym (eq_true a b x) ∙ not_true (a == b) (and_left (not (a == b)) (has_none ta && has_none tb) rest) in cc (z) in
         let places : h.place ≢ f.place = λ x. let z : true ≡ false = sym (eq_true f.place h.place (sym x)) ∙ place_is o c s sh a b f h found e ∙ eq_false a b ne in cc (z) in
         let led : List Seat = map (led_by b a) old in

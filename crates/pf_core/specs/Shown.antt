@@ -48,7 +48,7 @@ pub record ShowsState (o : Opening) (c : CoreState) (s : State) : Type 0 where
   pub actors : Each c.actors (λ (x : Actor). x.view.numbers ≢ [] → ShowsActor s.seats.items s.nodes.items x)
 
 -- it shows some state
-pub record IsShown (s : State) : Type 0 where
+pub record IsShownState (s : State) : Type 0 where
   pub opening : Opening
   pub state : CoreState
   pub shown : ShowsState opening state s

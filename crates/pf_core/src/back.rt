@@ -4,7 +4,7 @@ ghost use Rattle.pf_core_model.specs.State.{owes_of};
 ghost use Rattle.pf_core_model.specs.declared.event.Event.{Event};
 ghost use Rattle.pf_core.specs.Tables.{node_at, seat_at, is_lead, is_this, put_back_node, born_node, less_held, born_seat};
 ghost use Rattle.pf_core.specs.Gates.{can_return, can_release, can_bury, can_birth};
-ghost use Rattle.pf_core.specs.Shown.{IsShown, IsAct};
+ghost use Rattle.pf_core.specs.Shown.{IsShownState, IsAct};
 
 use crate::reading::{is_held_by, is_same};
 use crate::state::State;
@@ -137,7 +137,7 @@ fn clear_unborn(seats: &mut Vec<Seat>, a: u32)
 
 /// The new node `n` of the actor `a` is held as any other from now on.
 pub fn bear(s: &mut State, a: u32, n: u32) -> Verdict
-    requires sound { IsShown s.old }
+    requires sound { IsShownState s.old }
     requires actor { is_lead s.old.seats.items a ≡ true }
     ensures { IsAct (Event.Birth a n) s.old result s.new }
 {

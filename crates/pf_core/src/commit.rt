@@ -10,7 +10,7 @@ ghost use Rattle.pf_core.specs.Tables.{node_at, seat_at, is_lead, star_seen};
 ghost use Rattle.pf_core.specs.Gates.{can_commit, IsShownTo};
 ghost use Rattle.pf_dues.specs.Owed.{owed_all};
 ghost use Rattle.pf_core.specs.Making.{starred_node, starred, absent_by, born_by, count_by, committed_seat};
-ghost use Rattle.pf_core.specs.Shown.{IsShown as Sound, IsAct, Stays};
+ghost use Rattle.pf_core.specs.Shown.{IsShownState as Sound, IsAct, Stays};
 
 use crate::judging::is_makeable;
 use crate::lent::Lent;

@@ -2,7 +2,7 @@
 ghost use Rattle.std.specs.Prelude.{◌≡◌, IfOk, OnErr, true};
 ghost use Rattle.pf_core_model.specs.State.{actor_of as actor_in};
 ghost use Rattle.pf_core.specs.Tables.{is_lead};
-ghost use Rattle.pf_core.specs.Shown.{IsShown, IsAct, IsStep, Stays};
+ghost use Rattle.pf_core.specs.Shown.{IsShownState, IsAct, IsStep, Stays};
 
 use crate::back::{bear, bury, release};
 use crate::commit::commit;
@@ -36,7 +36,7 @@ fn actor_of(e: Event) -> u32
 
 // An event of an actor that there is.
 fn act(alloc: Global, s: &mut State, e: Event) -> Result<Verdict, NoMemory>
-    requires sound { IsShown s.old }
+    requires sound { IsShownState s.old }
     requires actor { is_lead s.old.seats.items (actor_in e) ≡ true }
     ensures took { IfOk result (λ v. IsAct e s.old v s.new) }
     ensures same { OnErr result (Stays s.old s.new) }
@@ -66,7 +66,7 @@ fn act(alloc: Global, s: &mut State, e: Event) -> Result<Verdict, NoMemory>
 /// that a `Lost` found, and none of any other event. A step takes time by how many triangles the nodes at hand
 /// have, however large the state is.
 pub fn step(alloc: Global, s: &mut State, e: Event) -> Result<Verdict, NoMemory>
-    requires sound { IsShown s.old }
+    requires sound { IsShownState s.old }
     ensures took { IfOk result (λ v. IsStep e s.old v s.new) }
     ensures same { OnErr result (Stays s.old s.new) }
 {

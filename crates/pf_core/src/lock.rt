@@ -4,7 +4,7 @@ ghost use Rattle.pf_core_model.specs.Sharers.{kept_in};
 ghost use Rattle.pf_core_model.specs.declared.event.Event.{Event};
 ghost use Rattle.pf_core.specs.Tables.{node_at, seat_at, is_lead, held_node, more_held};
 ghost use Rattle.pf_core.specs.Gates.{can_lock, other_holder};
-ghost use Rattle.pf_core.specs.Shown.{IsShown, IsAct, Stays};
+ghost use Rattle.pf_core.specs.Shown.{IsShownState, IsAct, Stays};
 
 use crate::reading::{is_clear, is_free, word_at};
 use crate::state::State;
@@ -64,7 +64,7 @@ fn count_one(seats: &mut Vec<Seat>, a: u32)
 
 /// The actor `a` tries for the node `n`, which is to be free.
 pub fn lock(alloc: Global, s: &mut State, a: u32, n: u32) -> Result<Verdict, NoMemory>
-    requires sound { IsShown s.old }
+    requires sound { IsShownState s.old }
     requires actor { is_lead s.old.seats.items a ≡ true }
     ensures took { IfOk result (λ v. IsAct (Event.Lock a n) s.old v s.new) }
     ensures same { OnErr result (Stays s.old s.new) }

@@ -3,7 +3,7 @@ ghost use Rattle.std.specs.Prelude.{◌≡◌, ◌<◌, ◌≤◌, ◌+◌, ◌-
 ghost use Rattle.pf_core_model.specs.declared.event.Event.{Event};
 ghost use Rattle.pf_core.specs.Tables.{seat_at, is_lead, is_clear_seat, with_allowance, first_seat, led_by};
 ghost use Rattle.pf_core.specs.Gates.{is_spare, can_split, has_none, can_join};
-ghost use Rattle.pf_core.specs.Shown.{IsShown, IsAct};
+ghost use Rattle.pf_core.specs.Shown.{IsShownState, IsAct};
 
 use crate::reading::{is_actor, is_clear};
 use crate::state::State;
@@ -136,7 +136,7 @@ fn set_allowance(seats: &mut Vec<Seat>, a: u32, allowance: u32)
 
 /// What the actor `b` has goes to `a`, and `b` is a spare number of `a`.
 pub fn join(s: &mut State, a: u32, b: u32) -> Verdict
-    requires sound { IsShown s.old }
+    requires sound { IsShownState s.old }
     requires actor { is_lead s.old.seats.items a ≡ true }
     ensures { IsAct (Event.Join a b) s.old result s.new }
 {

@@ -6,7 +6,7 @@ ghost use Rattle.pf_core_model.specs.State.{without_owed};
 ghost use Rattle.pf_star_model.specs.Copies.{due_copy};
 ghost use Rattle.pf_core.specs.Tables.{node_at, seat_at, is_lead, listed_node, paid_seat};
 ghost use Rattle.pf_core.specs.Gates.{can_push};
-ghost use Rattle.pf_core.specs.Shown.{IsShown, IsAct, Stays};
+ghost use Rattle.pf_core.specs.Shown.{IsShownState, IsAct, Stays};
 
 use crate::state::State;
 use crate::tables::{Node, Seat};
@@ -60,7 +60,7 @@ fn due_at(alloc: Global, nodes: &[Node], n: u32, chunk: u16) -> Result<Option<St
 
 /// The actor `a` puts the chunk's copy of the node `n`, which it owes.
 pub fn push(alloc: Global, s: &mut State, a: u32, chunk: u16, n: u32) -> Result<Verdict, NoMemory>
-    requires sound { IsShown s.old }
+    requires sound { IsShownState s.old }
     requires actor { is_lead s.old.seats.items a ≡ true }
     ensures took { IfOk result (λ v. IsAct (Event.Push a chunk n) s.old v s.new) }
     ensures same { OnErr result (Stays s.old s.new) }

@@ -31,11 +31,11 @@ pub struct State {
 impl State {
     ghost use Rattle.pf_core.specs.Part.{counts_in};
     ghost use Rattle.pf_core.specs.Tables.{word_code};
-    ghost use Rattle.pf_core.specs.Shown.{ShowsState, IsShown};
+    ghost use Rattle.pf_core.specs.Shown.{ShowsState, IsShownState};
 
     /// How many tickets were drawn.
     pub fn tickets(&self) -> u32
-        requires { IsShown self.now }
+        requires { IsShownState self.now }
         ensures { (o : Opening) (c : CoreState) → ShowsState o c self.now → result ≡ tickets_in o c }
     {
         self.log.len() as u32
@@ -58,7 +58,7 @@ impl State {
     /// The triangles all of whose corners are free, by rising corners, from the copies of the keepers. Want of
     /// memory is the only failure.
     pub fn free_part(&self, alloc: Global) -> Result<Vec<Tri>, NoMemory>
-        requires { IsShown self.now }
+        requires { IsShownState self.now }
         ensures { IfOk result (λ v. (o : Opening) (c : CoreState) → ShowsState o c self.now → v.items ≡ free_part_of o c) }
     {
         let list = part_of(alloc, &self.nodes)?;
@@ -67,7 +67,7 @@ impl State {
 
     /// How many names are free, held, dead, and never live or unborn.
     pub fn counts(&self) -> Counts
-        requires { IsShown self.now }
+        requires { IsShownState self.now }
         ensures { (o : Opening) (c : CoreState) → ShowsState o c self.now → counts_in result ≡ counted_of o c }
     {
         counts_of(&self.nodes)

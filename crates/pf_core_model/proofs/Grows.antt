@@ -29,7 +29,7 @@ use Rattle.pf_core_model.proofs.Histories.{at_below, entry_from, entry_among, hi
 use Rattle.pf_core_model.proofs.StateLaws.{sound_in}
 use Rattle.pf_core_model.proofs.Steps.{found_is, step_core}
 use Rattle.pf_core_model.specs.Needs.{KeepsOutside}
-use Rattle.pf_core_model.specs.Shown.{HasGrown}
+use Rattle.pf_core_model.specs.Shown.{IsExtended}
 
 -- the entries of a state
 abbrev pub entered : CoreState → List Entry
@@ -143,7 +143,7 @@ holder_of_ticket o words homes views log s i d at =
     let is : h.0 ≡ d = some-injective h.0 d (sym ((s.fits r.0 r.1 r.2).done h.0 h.1).0 ∙ ap (λ (k : ℕ). get_elem? log k) (sym h.2) ∙ at) in
     (r.0, r.1, r.2, subst (λ (y : Entry). In y r.1.entries) is h.1)
 
-pub has_grown : (o : Opening) (s t : CoreState) → IsCore o s → IsCore o t → ((d : Entry) → In d (entered s) → In d (entered t)) → HasGrown (log_of o s) (log_of o t)
+pub has_grown : (o : Opening) (s t : CoreState) → IsCore o s → IsCore o t → ((d : Entry) → In d (entered s) → In d (entered t)) → IsExtended (log_of o s) (log_of o t)
 has_grown o s t c k stays =
     let snd = sound_in o s c in
     let snt = sound_in o t k in
@@ -161,5 +161,5 @@ has_grown o s t c k stays =
     ap (λ (j : ℕ). get_elem? log' j) (let e : i ≡ d.ticket = omega arith in e) ∙ z) in
     (drop (length log) log', two ∙ grow ∙ ap (λ (l : List Entry). l ++ drop (length log) log') (sym one))
 
-pub step_grows : (outside : KeepsOutside) (o : Opening) (s : CoreState) (event : Event) → IsCore o s → HasGrown (log_of o s) (log_of o (stepped o s event).state)
+pub step_grows : (outside : KeepsOutside) (o : Opening) (s : CoreState) (event : Event) → IsCore o s → IsExtended (log_of o s) (log_of o (stepped o s event).state)
 step_grows outside o s event c = has_grown o s (stepped o s event).state c (step_core outside o s c event) (λ d h. (entries_stay o s d (record { inside = h }) event).inside)

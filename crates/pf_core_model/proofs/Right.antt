@@ -19,7 +19,7 @@ use Rattle.pf_core_model.specs.declared.view.Mark.{Mark}
 use Rattle.pf_core_model.specs.Lists.{In}
 use Rattle.pf_core_model.specs.Core.{Opening, mesh_after, star_after, IsPairOf, IsTrueMark, IsTrueRefusal, Homes, Sound}
 use Rattle.pf_core_model.specs.Right.{AgreesAt, Call, Gain, refusal, lost, dead, never, mark, HasGained, IsTrueGain, IsMoment, IsRight, HasStar, IsTold, Lasts}
-use Rattle.pf_core_model.specs.Shown.{HasGrown}
+use Rattle.pf_core_model.specs.Shown.{IsExtended}
 use Rattle.pf_core_model.proofs.Lists.{at_longer}
 use Rattle.pf_core_model.proofs.Replays.{star_after_is, conforms_after, replayed_bands}
 use Rattle.pf_core_model.proofs.Told.{star_none}
@@ -78,7 +78,7 @@ module _ (o : Opening) (log more : List Entry) where
   lasting : Lasts o log (log ++ more)
   lasting = record { gains = gain_lasts; entries = λ t e h. at_longer log more t e h; answers = answer_lasts }
 
-pub facts_last : (o : Opening) (log log' : List Entry) → HasGrown log log' → Lasts o log log'
+pub facts_last : (o : Opening) (log log' : List Entry) → IsExtended log log' → Lasts o log log'
 facts_last o log log' h = subst (λ (l : List Entry). Lasts o log l) (sym h.1) (lasting o log h.0)
 
 module _ (o : Opening) (log : List Entry) (ok : IsConforming o.mesh) (fresh : IsFresh o.mesh 0) (legal : IsLegal o.mesh log) (gained : Gain → Type 0) (truth : (g : Gain) → gained g → IsTrueGain o log g) where

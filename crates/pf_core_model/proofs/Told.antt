@@ -34,7 +34,7 @@ use Rattle.pf_core_model.specs.Moves.{unborn_by, refused, made_list, committed}
 use Rattle.pf_core_model.specs.Needs.{KeepsOutside}
 use Rattle.pf_core_model.specs.History.{with_ticket}
 use Rattle.pf_core_model.specs.Core.{Opening, names_of, mesh_after, star_after, held_by, number_of, nodes_in, nodes_of, tickets_of, ArePatched, Homes, Sound}
-use Rattle.pf_core_model.specs.Guards.{IsMeshOf, IsJudged, HoldsCavity, IsViewPatch, IsAlone, KnowsHistory}
+use Rattle.pf_core_model.specs.Guards.{IsMeshOf, IsViewJudged, ViewHoldsCavity, IsViewPatch, IsAlone, KnowsHistory}
 use Rattle.pf_core_model.proofs.Lists.{total_some, in_none, in_left, in_right, in_map, in_mapped, in_times}
 use Rattle.pf_core_model.proofs.Replays.{star_after_is, star_applied, conforms_after, fresh_after, replayed_first_new, replayed_chunks, replayed_bands, makes_here, or_right}
 use Rattle.pf_core_model.proofs.Views.{some_not_none, node_in, acts, one_number, apart, holder_of}
@@ -143,12 +143,12 @@ module _ (o : Opening) (words : List ℕ) (homes : Homes) (views : List View) (l
         pairs = λ p h. f.pairs p h ∙ star_after_is o log p.node;
       }
 
-  pub judged_keeps : (chunk : ℕ) (op : Op) (why : Cond) → v.numbers ≢ [] → IsJudged v chunk op (Some why) → Sound o words homes (set views id (refused v (length log) chunk op why)) log
+  pub judged_keeps : (chunk : ℕ) (op : Op) (why : Cond) → v.numbers ≢ [] → IsViewJudged v chunk op (Some why) → Sound o words homes (set views id (refused v (length log) chunk op why)) log
   judged_keeps chunk op why actor judged = refuses o words homes views log s id v chunk op why at (judged (mesh_after o log) (shown_mesh actor))
 
   pub made_keeps : (outside : KeepsOutside) (homes' : Homes) (e : Entry) (fresh : List Held)
       → length homes' ≡ length homes → ((n : ℕ) → makes o.mesh.first_new n e ≡ false → get_elem? homes' n ≡ get_elem? homes n)
-      → v.numbers ≢ [] → v.unborn ≡ None → 0 < v.allowance → e.ticket ≡ length log → IsJudged v e.chunk e.op None → HoldsCavity v e.chunk e.op → IsViewPatch v e fresh
+      → v.numbers ≢ [] → v.unborn ≡ None → 0 < v.allowance → e.ticket ≡ length log → IsViewJudged v e.chunk e.op None → ViewHoldsCavity v e.chunk e.op → IsViewPatch v e fresh
       → Sound o (set words (names_of o) (length log + 1)) homes' (set views id (committed v e fresh (unborn_by v.first_new e))) (log ++ e ∷ [])
   made_keeps outside homes' e fresh full home_else actor clear rich ticket judged cavity patch =
       let m : Undivided = mesh_after o log in

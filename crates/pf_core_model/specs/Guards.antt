@@ -31,12 +31,12 @@ pub record IsMeshOf (v : View) (m : Undivided) : Type 0 where
   pub pairs : (p : Held) → In p v.held → p.star ≡ star_of m p.node
 
 -- the first condition that the operation fails, as the view tells
-abbrev pub IsJudged : View → ℕ → Op → Option Cond → Type 0
-IsJudged v chunk op x = (m : Undivided) → IsMeshOf v m → first_failing m chunk op ≡ x
+abbrev pub IsViewJudged : View → ℕ → Op → Option Cond → Type 0
+IsViewJudged v chunk op x = (m : Undivided) → IsMeshOf v m → first_failing m chunk op ≡ x
 
 -- the view holds the cavity of an operation that passes
-abbrev pub HoldsCavity : View → ℕ → Op → Type 0
-HoldsCavity v chunk op = (m : Undivided) → IsMeshOf v m → (n : ℕ) → In n (cavity_of m chunk op) → In n (nodes_of v)
+abbrev pub ViewHoldsCavity : View → ℕ → Op → Type 0
+ViewHoldsCavity v chunk op = (m : Undivided) → IsMeshOf v m → (n : ℕ) → In n (cavity_of m chunk op) → In n (nodes_of v)
 
 -- the pairs are those of the view, patched by the entry, with that of the new node in front
 pub record IsViewPatch (v : View) (e : Entry) (fresh : List Held) : Type 0 where
@@ -53,13 +53,13 @@ HeldPairsAgree = OverSound (λ o words homes views log id v. v.numbers ≢ [] �
 
 -- an operation that fails, as the view tells, can be refused
 abbrev pub JudgedKeepsSound : Type 0
-JudgedKeepsSound = OverSound (λ o words homes views log id v. (chunk : ℕ) (op : Op) (why : Cond) → v.numbers ≢ [] → IsJudged v chunk op (Some why) → Sound o words homes (slice_set views id (refused v (length log) chunk op why)) log)
+JudgedKeepsSound = OverSound (λ o words homes views log id v. (chunk : ℕ) (op : Op) (why : Cond) → v.numbers ≢ [] → IsViewJudged v chunk op (Some why) → Sound o words homes (slice_set views id (refused v (length log) chunk op why)) log)
 
 -- an operation that passes, as the view tells, and whose cavity it holds, can be made
 abbrev pub MadeKeepsSound : Type 0
 MadeKeepsSound = OverSound (λ o words homes views log id v. (homes' : Homes) (e : Entry) (fresh : List Held)
     → length homes' ≡ length homes → ((n : ℕ) → makes o.mesh.first_new n e ≡ false → get_elem? homes' n ≡ get_elem? homes n)
-    → v.numbers ≢ [] → v.unborn ≡ None → 0 < v.allowance → e.ticket ≡ length log → IsJudged v e.chunk e.op None → HoldsCavity v e.chunk e.op → IsViewPatch v e fresh
+    → v.numbers ≢ [] → v.unborn ≡ None → 0 < v.allowance → e.ticket ≡ length log → IsViewJudged v e.chunk e.op None → ViewHoldsCavity v e.chunk e.op → IsViewPatch v e fresh
     → Sound o (slice_set words (names_of o) (length log + 1)) homes' (slice_set views id (committed v e fresh (unborn_by v.first_new e))) (log ++ e ∷ []))
 
 -- the word of a node that the view doesn't hold names another actor, if any; and none where the view is alone

@@ -23,7 +23,7 @@ use Rattle.pf_core_model.specs.declared.view.Lost.{Lost}
 use Rattle.pf_core_model.specs.Lists.{In}
 use Rattle.pf_core_model.specs.Core.{Opening, names_of, mesh_after, IsTrueMark, IsTrueRefusal}
 use Rattle.pf_core_model.specs.Laws.{OverSound}
-use Rattle.pf_core_model.specs.Shown.{HasGrown}
+use Rattle.pf_core_model.specs.Shown.{IsExtended}
 
 -- a conforming mesh with these bands that agrees with the pairs of a mark
 pub record AgreesAt (bands : List Band) (k : Mark) (m : Undivided) : Type 0 where
@@ -116,7 +116,7 @@ pub record Lasts (o : Opening) (log log' : List Entry) : Type 0 where
   pub answers : (c : Call) (a : Answer) → IsRight o log c a → IsRight o log' c a
 
 abbrev pub FactsLast : Type 0
-FactsLast = (o : Opening) (log log' : List Entry) → HasGrown log log' → Lasts o log log'
+FactsLast = (o : Opening) (log log' : List Entry) → IsExtended log log' → Lasts o log log'
 
 -- an answer is right where all that the caller came to know is true, and its entries stand in the history
 abbrev pub TruthIsRight : Type 0

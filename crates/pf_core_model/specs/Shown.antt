@@ -67,9 +67,9 @@ abbrev pub FreePartIsOfMesh : Type 0
 FreePartIsOfMesh = (o : Opening) (s : CoreState) → IsCore o s → free_part_of o s ≡ filter (has_free_corners (names_of o) s.words) (mesh_of o s).tris
 
 -- the second history goes on from the first
-abbrev pub HasGrown : List Entry → List Entry → Type 0
-HasGrown log log' = (more : List Entry) × (log' ≡ log ++ more)
+abbrev pub IsExtended : List Entry → List Entry → Type 0
+IsExtended log log' = (more : List Entry) × (log' ≡ log ++ more)
 
 -- the history only grows
 abbrev pub StepGrowsHistory : Type 0
-StepGrowsHistory = (o : Opening) (s : CoreState) (event : Event) → IsCore o s → HasGrown (log_of o s) (log_of o (stepped o s event).state)
+StepGrowsHistory = (o : Opening) (s : CoreState) (event : Event) → IsCore o s → IsExtended (log_of o s) (log_of o (stepped o s event).state)

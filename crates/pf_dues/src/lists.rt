@@ -2,7 +2,7 @@
 ghost use Rattle.std.specs.Prelude.{◌≡◌, IfOk, OnOk, OnErr, Some, None};
 ghost use Rattle.pf_star_model.specs.Copies.{due_copy};
 ghost use Rattle.pf_core_model.specs.Sharers.{put_copy};
-ghost use Rattle.pf_dues.specs.Lists.{place_of, has_copy};
+ghost use Rattle.pf_dues.specs.Lists.{index_of, has_copy};
 
 use pf_core_model::Sharer;
 use pf_geom::NoMemory;
@@ -27,7 +27,7 @@ pub fn due_of(alloc: Global, star: &Option<Star>, chunk: u16) -> Result<Option<S
 
 // How many copies come before that of the chunk.
 fn place(list: &[Sharer], chunk: u16) -> usize
-    ensures { result ≡ place_of chunk list.now }
+    ensures { result ≡ index_of chunk list.now }
 {
     for (i, s) in list.iter().enumerate() {
         if s.chunk >= chunk {

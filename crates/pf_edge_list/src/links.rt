@@ -10,9 +10,9 @@ ghost use Rattle.pf_edge_list.specs.Edges.{AreEdges};
 
 use crate::edges::Edges;
 use pf_rules::contract::is_an_apex;
-use pf_spokes::lesser_of;
 use pf_rules::edge_sides::EdgeSides;
 use pf_rules::lengths::span_of;
+use pf_spokes::lesser_of;
 
 impl Edges {
     /// Whether two nodes share an edge.

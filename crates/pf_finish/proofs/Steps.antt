@@ -20,8 +20,8 @@ use Rattle.pf_core_model.proofs.Told.{live_known}
 use Rattle.pf_core_model.proofs.Replays.{made_name, replayed_first_new}
 use Rattle.pf_holder.specs.Facts.{AreSeen, KnowsAll, history_in, mesh_alone}
 use Rattle.pf_finish.specs.Passing.{IsAnswer}
-use Rattle.pf_finish.specs.Done.{AreAnswers, HasWorkedOff, IsFinished, IsAnswered}
-use Rattle.pf_finish.specs.Covers.{is_covered, Covers, IsStep, IsNoted}
+use Rattle.pf_finish.specs.Done.{AreAnswers, HasWorkedOff, IsFinished, IsWorkedOff}
+use Rattle.pf_finish.specs.Covers.{is_covered, Covers, IsWorkStep, IsNoted}
 use Rattle.pf_finish.specs.declared.pass.FinishEnd.{FinishEnd}
 use Rattle.pf_finish.specs.declared.tries.Answered.{Answered}
 use Rattle.pf_finish.specs.declared.tries.Answered.TheVariants.{Done, Spent, Memory}
@@ -56,7 +56,7 @@ has-stayed o rich before left after a l = go a.added refl
     go (x ∷ es) e = absurd (let k = a.paid in let q : length a.added ≡ suc (length es) = ap length e in omega (arith, k, q, l))
 
 -- nothing was done
-pub step-none : (o : Opening) (rich : ℕ) (before : List Entry) (from : ℕ) (left : ℕ) (after : List Entry) (end : ℕ) → left ≡ rich → after ≡ before → end ≡ from → IsStep o rich before from left after end
+pub step-none : (o : Opening) (rich : ℕ) (before : List Entry) (from : ℕ) (left : ℕ) (after : List Entry) (end : ℕ) → left ≡ rich → after ≡ before → end ≡ from → IsWorkStep o rich before from left after end
 step-none o rich before from left after end l e n =
     record {
       answered = has-none o rich before left after l e;
@@ -65,9 +65,9 @@ step-none o rich before from left after end l e n =
     }
 
 -- one part, then another
-pub step-then : (o o' : Opening) (rich : ℕ) (before : List Entry) (from : ℕ) (left : ℕ) (after : List Entry) (end : ℕ) (left' : ℕ) (after' : List Entry) (end' : ℕ) → o' ≡ o → IsStep o rich before from left after end → IsStep o' left after end left' after' end' → IsStep o rich before from left' after' end'
+pub step-then : (o o' : Opening) (rich : ℕ) (before : List Entry) (from : ℕ) (left : ℕ) (after : List Entry) (end : ℕ) (left' : ℕ) (after' : List Entry) (end' : ℕ) → o' ≡ o → IsWorkStep o rich before from left after end → IsWorkStep o' left after end left' after' end' → IsWorkStep o rich before from left' after' end'
 step-then o o' rich before from left after end left' after' end' q a b' =
-    let b : IsStep o left after end left' after' end' = subst (λ (p : Opening). IsStep p left after end left' after' end') q b' in
+    let b : IsWorkStep o left after end left' after' end' = subst (λ (p : Opening). IsWorkStep p left after end left' after' end') q b' in
     let low = has-less o rich before left after a.answered in
     let low' = has-less o left after left' after' b.answered in
     record {
@@ -77,11 +77,11 @@ step-then o o' rich before from left after end left' after' end' q a b' =
     }
 
 -- nothing, then a part
-pub step-after : (o o' : Opening) (rich : ℕ) (before : List Entry) (rich' : ℕ) (before' : List Entry) (from : ℕ) (left : ℕ) (after : List Entry) (end : ℕ) → o' ≡ o → rich' ≡ rich → before' ≡ before → IsStep o' rich' before' from left after end → IsStep o rich before from left after end
+pub step-after : (o o' : Opening) (rich : ℕ) (before : List Entry) (rich' : ℕ) (before' : List Entry) (from : ℕ) (left : ℕ) (after : List Entry) (end : ℕ) → o' ≡ o → rich' ≡ rich → before' ≡ before → IsWorkStep o' rich' before' from left after end → IsWorkStep o rich before from left after end
 step-after o o' rich before rich' before' from left after end q l e b = step-then o o' rich before from rich' before' from left after end q (step-none o rich before from rich' before' from l e refl) b
 
 -- a part, then nothing
-pub step-still : (o : Opening) (rich : ℕ) (before : List Entry) (from : ℕ) (left : ℕ) (after : List Entry) (end : ℕ) (left' : ℕ) (after' : List Entry) → left' ≡ left → after' ≡ after → IsStep o rich before from left after end → IsStep o rich before from left' after' end
+pub step-still : (o : Opening) (rich : ℕ) (before : List Entry) (from : ℕ) (left : ℕ) (after : List Entry) (end : ℕ) (left' : ℕ) (after' : List Entry) → left' ≡ left → after' ≡ after → IsWorkStep o rich before from left after end → IsWorkStep o rich before from left' after' end
 step-still o rich before from left after end left' after' l e a = step-then o o rich before from left after end left' after' end refl a (step-none o left after end left' after' end l e refl)
 
 -- the end of the names after an entry with this ticket
@@ -138,7 +138,7 @@ covers-more o ps ps' rich left before e live from l a b c =
         covered-new o.mesh.first_new live e.ticket n (made_name (mesh_alone o before).first_new n e (any-one _ made) ∙ ap (λ (k : ℕ). k + e.ticket) (replayed_first_new o.mesh (history_in before)))
 
 -- one entry was added that answers a line
-pub step-done : (o : Opening) (ps ps' : List Held) (rich : ℕ) (before : List Entry) (from : ℕ) (left : ℕ) (after : List Entry) (ticket : ℕ) (op : Op) → ∥ KnowsAll o ps rich before ∥₁ → ∥ KnowsAll o ps' left after ∥₁ → IsAnswered o rich before left after (Done ticket op) → IsStep o rich before from left after (o.mesh.first_new + ticket + 1)
+pub step-done : (o : Opening) (ps ps' : List Held) (rich : ℕ) (before : List Entry) (from : ℕ) (left : ℕ) (after : List Entry) (ticket : ℕ) (op : Op) → ∥ KnowsAll o ps rich before ∥₁ → ∥ KnowsAll o ps' left after ∥₁ → IsWorkedOff o rich before left after (Done ticket op) → IsWorkStep o rich before from left after (o.mesh.first_new + ticket + 1)
 step-done o ps ps' rich before from left after ticket op a b d =
     let e : Entry = record { ticket = ticket; chunk = d.1.0; op = normal_of op } in
     let b' : ∥ KnowsAll o ps' left (e ∷ before) ∥₁ = subst (λ (l : List Entry). ∥ KnowsAll o ps' left l ∥₁) d.1.1 b in
@@ -152,7 +152,7 @@ step-done o ps ps' rich before from left after ticket op a b d =
     }
 
 -- there is room for the end of the names
-pub next-room : (o : Opening) (ps ps' qs : List Held) (rich : ℕ) (before : List Entry) (left : ℕ) (after : List Entry) (ticket : ℕ) (op : Op) → ∥ KnowsAll o ps rich before ∥₁ → ∥ KnowsAll o ps' left after ∥₁ → ∥ AreSeen o qs ∥₁ → IsAnswered o rich before left after (Done ticket op) → o.mesh.first_new + ticket + 1 ≤ 1048576
+pub next-room : (o : Opening) (ps ps' qs : List Held) (rich : ℕ) (before : List Entry) (left : ℕ) (after : List Entry) (ticket : ℕ) (op : Op) → ∥ KnowsAll o ps rich before ∥₁ → ∥ KnowsAll o ps' left after ∥₁ → ∥ AreSeen o qs ∥₁ → IsWorkedOff o rich before left after (Done ticket op) → o.mesh.first_new + ticket + 1 ≤ 1048576
 next-room o ps ps' qs rich before left after ticket op a b s d =
     let e : Entry = record { ticket = ticket; chunk = d.1.0; op = normal_of op } in
     let b' : ∥ KnowsAll o ps' left (e ∷ before) ∥₁ = subst (λ (l : List Entry). ∥ KnowsAll o ps' left l ∥₁) d.1.1 b in
@@ -174,7 +174,7 @@ noted-from o o' entries rich rich' left Spent e l h = subst (λ (p : Opening). I
 noted-from o o' entries rich rich' left Memory e l h = tt
 
 -- where the allowance stays over two parts, nothing was done in either
-pub both-stayed : (o o' : Opening) (rich : ℕ) (before : List Entry) (from : ℕ) (left : ℕ) (after : List Entry) (end : ℕ) (left' : ℕ) (after' : List Entry) (end' : ℕ) → IsStep o rich before from left after end → IsStep o' left after end left' after' end' → left' ≡ rich → (left ≡ rich) × (left' ≡ left) × (after ≡ before) × (end ≡ from)
+pub both-stayed : (o o' : Opening) (rich : ℕ) (before : List Entry) (from : ℕ) (left : ℕ) (after : List Entry) (end : ℕ) (left' : ℕ) (after' : List Entry) (end' : ℕ) → IsWorkStep o rich before from left after end → IsWorkStep o' left after end left' after' end' → left' ≡ rich → (left ≡ rich) × (left' ≡ left) × (after ≡ before) × (end ≡ from)
 both-stayed o o' rich before from left after end left' after' end' a b l =
     let low = has-less o rich before left after a.answered in
     let low' = has-less o' left after left' after' b.answered in
@@ -182,8 +182,8 @@ both-stayed o o' rich before from left after end left' after' end' a b l =
     (same, omega (arith, l, low, low'), has-stayed o rich before left after a.answered same, a.stays same)
 
 -- a pass more
-pub pass-more : (o o' : Opening) (rich : ℕ) (before : List Entry) (left : ℕ) (after : List Entry) (end : ℕ) (left' : ℕ) (after' : List Entry) (end' : ℕ) → o' ≡ o → HasWorkedOff o rich before left after → IsStep o' left after end left' after' end' → HasWorkedOff o rich before left' after'
+pub pass-more : (o o' : Opening) (rich : ℕ) (before : List Entry) (left : ℕ) (after : List Entry) (end : ℕ) (left' : ℕ) (after' : List Entry) (end' : ℕ) → o' ≡ o → HasWorkedOff o rich before left after → IsWorkStep o' left after end left' after' end' → HasWorkedOff o rich before left' after'
 pass-more o o' rich before left after end left' after' end' q a b = has-then o rich before left after left' after' a (subst (λ (p : Opening). HasWorkedOff p left after left' after') q b.answered)
 
-pub pass-covers : (o o' : Opening) (live : List ℕ) (left : ℕ) (after : List Entry) (end : ℕ) (left' : ℕ) (after' : List Entry) (end' : ℕ) → o' ≡ o → Covers o live after end → IsStep o' left after end left' after' end' → Covers o live after' end'
+pub pass-covers : (o o' : Opening) (live : List ℕ) (left : ℕ) (after : List Entry) (end : ℕ) (left' : ℕ) (after' : List Entry) (end' : ℕ) → o' ≡ o → Covers o live after end → IsWorkStep o' left after end left' after' end' → Covers o live after' end'
 pass-covers o o' live left after end left' after' end' q c b = subst (λ (p : Opening). Covers p live after' end') q (b.covers live (subst (λ (p : Opening). Covers p live after end) (sym q) c))

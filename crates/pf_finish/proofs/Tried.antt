@@ -18,9 +18,9 @@ use Rattle.pf_core_model.specs.declared.answer.Answer.TheVariants as answer
 use Rattle.pf_core_model.specs.Core.{Opening}
 use Rattle.pf_holder.specs.Facts.{mesh_alone, KnowsAll}
 use Rattle.pf_holder.specs.Answers.{IsEndGone, TellsOf, IsEntered}
-use Rattle.pf_attempt.specs.Stages.{IsRefusal}
+use Rattle.pf_attempt.specs.Stages.{IsRefusedAnswer}
 use Rattle.pf_finish.specs.Passing.{IsAnswer}
-use Rattle.pf_finish.specs.Done.{answered_of, IsAnswered}
+use Rattle.pf_finish.specs.Done.{answered_of, IsWorkedOff}
 use Rattle.pf_finish.specs.declared.tries.Answered.TheVariants.{Done, Memory}
 
 -- a live node has a star
@@ -63,7 +63,7 @@ fails_told o ps chunk op rich before left after answer.Spent k p h e n = absurd 
 fails_told o ps chunk op rich before left after answer.Memory k p h e n = absurd (let z : Some Memory ≡ None = n in cc)
 
 pub answered_told : (o : Opening) (chunk : ℕ) (op : Op) (rich : ℕ) (before : List Entry) (left : ℕ) (after : List Entry) (a : Answer) → (first_failing (mesh_alone o before) chunk op ≡ None → IsAnswer (mesh_alone o before) chunk (normal_of op)) → TellsOf (mesh_alone o before) chunk op a → IsEntered chunk op rich before left after a
-    → IfSome (answered_of op a) (λ x. IsAnswered o rich before left after x)
+    → IfSome (answered_of op a) (λ x. IsWorkedOff o rich before left after x)
 answered_told o chunk op rich before left after (answer.Done t) w h e = (e.0, (chunk, e.1, w h.2))
 answered_told o chunk op rich before left after (answer.Refused t why) w h e = tt
 answered_told o chunk op rich before left after (answer.Busy t x y) w h e = tt
@@ -73,7 +73,7 @@ answered_told o chunk op rich before left after answer.Spent w h e = tt
 answered_told o chunk op rich before left after answer.Memory w h e = (e.1, e.2)
 
 -- what a refusal of what was asked says: it fails
-pub refusal_fails : (o : Opening) (ps : List Held) (chunk : ℕ) (op : Op) (rich : ℕ) (before : List Entry) (a : Answer) → ∥ KnowsAll o ps rich before ∥₁ → TellsOf (mesh_alone o before) chunk op a → IsRefusal a → first_failing (mesh_alone o before) chunk op ≢ None
+pub refusal_fails : (o : Opening) (ps : List Held) (chunk : ℕ) (op : Op) (rich : ℕ) (before : List Entry) (a : Answer) → ∥ KnowsAll o ps rich before ∥₁ → TellsOf (mesh_alone o before) chunk op a → IsRefusedAnswer a → first_failing (mesh_alone o before) chunk op ≢ None
 refusal_fails o ps chunk op rich before (answer.Done t) k h r = absurd r
 refusal_fails o ps chunk op rich before (answer.Refused t why) k h r = some_fails (mesh_alone o before) chunk op why h.2
 refusal_fails o ps chunk op rich before (answer.Busy t x y) k h r = absurd h

@@ -25,7 +25,7 @@ use Rattle.pf_finish.specs.declared.edges.EdgeSeen.{EdgeSeen}
 use Rattle.pf_finish.specs.Passing.{IsAnswer}
 use Rattle.pf_finish.specs.Seen.{IsSeenIn, IsSeenEdge, LooksAt, IsLongSettled, IsShortSettled, IsFlipSettled, IsSettled, IsSettledEdge}
 use Rattle.pf_finish.specs.Wished.{is_wished, HasWishes}
-use Rattle.pf_finish.specs.Done.{IsAnswered}
+use Rattle.pf_finish.specs.Done.{IsWorkedOff}
 use Rattle.pf_finish.specs.declared.tries.Answered.{Answered}
 use Rattle.pf_finish.proofs.Listed.{IsSorted, is_same, edge-listed, acting-below, end-edge}
 use Rattle.pf_finish.proofs.Lines.{long-answer, short-answer, short-answer_back, flip-answer}
@@ -38,9 +38,9 @@ mesh_same o o1 es es1 e f = λ i. mesh_alone (e i) (f i)
 pub knows_from : (o o1 : Opening) (ps : List Held) (rich rich1 : ℕ) (es es1 : List Entry) → o1 ≡ o → rich1 ≡ rich → es1 ≡ es → ∥ KnowsAll o1 ps rich1 es1 ∥₁ → ∥ KnowsAll o ps rich es ∥₁
 knows_from o o1 ps rich rich1 es es1 e r f k = subst (λ (x : Opening). ∥ KnowsAll x ps rich es ∥₁) e (subst (λ (x : ℕ). ∥ KnowsAll o1 ps x es ∥₁) r (subst (λ (x : List Entry). ∥ KnowsAll o1 ps rich1 x ∥₁) f k))
 
-pub answered_from : (o o1 : Opening) (rich rich1 : ℕ) (es es1 : List Entry) (left : ℕ) (after : List Entry) (x : Option Answered) → o1 ≡ o → rich1 ≡ rich → es1 ≡ es → IfSome x (λ x. IsAnswered o1 rich1 es1 left after x) → IfSome x (λ x. IsAnswered o rich es left after x)
+pub answered_from : (o o1 : Opening) (rich rich1 : ℕ) (es es1 : List Entry) (left : ℕ) (after : List Entry) (x : Option Answered) → o1 ≡ o → rich1 ≡ rich → es1 ≡ es → IfSome x (λ x. IsWorkedOff o1 rich1 es1 left after x) → IfSome x (λ x. IsWorkedOff o rich es left after x)
 answered_from o o1 rich rich1 es es1 left after None e r f h = tt
-answered_from o o1 rich rich1 es es1 left after (Some x) e r f h = subst (λ (y : Opening). IsAnswered y rich es left after x) e (subst (λ (y : ℕ). IsAnswered o1 y es left after x) r (subst (λ (y : List Entry). IsAnswered o1 rich1 y left after x) f h))
+answered_from o o1 rich rich1 es es1 left after (Some x) e r f h = subst (λ (y : Opening). IsWorkedOff y rich es left after x) e (subst (λ (y : ℕ). IsWorkedOff o1 y es left after x) r (subst (λ (y : List Entry). IsWorkedOff o1 rich1 y left after x) f h))
 
 pub listed_alone : (o : Opening) (ps : List Held) (rich : ℕ) (es : List Entry) (e : Edge) → ∥ KnowsAll o ps rich es ∥₁ → IsSorted e → is_edge (mesh_alone o es).tris e.lo e.hi ≡ true → list_any (is_same e) (edges_of (mesh_alone o es)) ≡ true
 listed_alone o ps rich es e k l h = ∥∥₁_elim k (hlevel props) (λ (z : KnowsAll o ps rich es). edge-listed (mesh_alone o es) z.seen.conforming e l h)

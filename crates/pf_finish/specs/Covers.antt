@@ -23,7 +23,7 @@ pub record Covers (o : Opening) (live : List ℕ) (entries : List Entry) (end : 
   pub all : (n : ℕ) → IsLive (mesh_alone o entries) n → is_covered o.mesh.first_new live end n ≡ true
 
 -- what was done between two moments: answers alone, and the names of new nodes are looked at too
-pub record IsStep (o : Opening) (rich : ℕ) (before : List Entry) (from : ℕ) (left : ℕ) (after : List Entry) (end : ℕ) : Type 0 where
+pub record IsWorkStep (o : Opening) (rich : ℕ) (before : List Entry) (from : ℕ) (left : ℕ) (after : List Entry) (end : ℕ) : Type 0 where
   pub answered : HasWorkedOff o rich before left after
   pub covers : (live : List ℕ) → Covers o live before from → Covers o live after end
   pub stays : left ≡ rich → end ≡ from

@@ -39,7 +39,7 @@ answered_of op answer.Memory = Some Memory
 answered_of op _ = None
 
 -- one entry was added, which answers a line; or a line passes and nothing is left of the allowance; or memory was wanting
-abbrev pub IsAnswered : Opening → ℕ → List Entry → ℕ → List Entry → Answered → Type 0
-IsAnswered o rich before left after (Done t op) = (left + 1 ≡ rich) × ((chunk : ℕ) × (after ≡ record { ticket = t; chunk = chunk; op = normal_of op } ∷ before) × IsAnswer (mesh_alone o before) chunk (normal_of op))
-IsAnswered o rich before left after Spent = (rich ≡ 0) × (left ≡ rich) × (after ≡ before) × (has_passing (mesh_alone o before) ≡ true)
-IsAnswered o rich before left after Memory = (left ≡ rich) × (after ≡ before)
+abbrev pub IsWorkedOff : Opening → ℕ → List Entry → ℕ → List Entry → Answered → Type 0
+IsWorkedOff o rich before left after (Done t op) = (left + 1 ≡ rich) × ((chunk : ℕ) × (after ≡ record { ticket = t; chunk = chunk; op = normal_of op } ∷ before) × IsAnswer (mesh_alone o before) chunk (normal_of op))
+IsWorkedOff o rich before left after Spent = (rich ≡ 0) × (left ≡ rich) × (after ≡ before) × (has_passing (mesh_alone o before) ≡ true)
+IsWorkedOff o rich before left after Memory = (left ≡ rich) × (after ≡ before)

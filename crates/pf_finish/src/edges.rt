@@ -9,7 +9,7 @@ ghost use Rattle.pf_model.specs.Wishes.{acting_chunk, terminal_of};
 ghost use Rattle.pf_rules.specs.Lengths.{span_value};
 ghost use Rattle.pf_holder.specs.Facts.{LendsAll, mesh_alone};
 ghost use Rattle.pf_finish.specs.Seen.{IsSeenIn, LooksAt, IsLongSettled, IsShortSettled, IsFlipSettled, IsSettled};
-ghost use Rattle.pf_finish.specs.Done.{IsAnswered};
+ghost use Rattle.pf_finish.specs.Done.{IsWorkedOff};
 
 use crate::tries::{Answered, wish_tried};
 use pf_holder::{Hold, Holder};
@@ -139,7 +139,7 @@ fn long_answered<H: Holder>(alloc: Global, h: &mut H, e: Span, seen: EdgeSeen) -
     ensures nothing { (H.pairs h.new ≡ []) × (H.unborn h.new ≡ None) × (H.owed h.new ≡ []) }
     ensures lends { LendsAll (H.lent h.new) (H.pairs h.new) }
     ensures settled { result ≡ None → (H.entries h.new ≡ H.entries h.old) × (H.allowance h.new ≡ H.allowance h.old) × IsLongSettled (mesh_alone (H.opening h.old) (H.entries h.old)) (span_value e) }
-    ensures answered { IfSome result (λ x. IsAnswered (H.opening h.old) (H.allowance h.old) (H.entries h.old) (H.allowance h.new) (H.entries h.new) x) }
+    ensures answered { IfSome result (λ x. IsWorkedOff (H.opening h.old) (H.allowance h.old) (H.entries h.old) (H.allowance h.new) (H.entries h.new) x) }
 {
     if !seen.long {
         return None;
@@ -167,7 +167,7 @@ fn short_answered<H: Holder>(alloc: Global, h: &mut H, e: Span, seen: EdgeSeen) 
     ensures nothing { (H.pairs h.new ≡ []) × (H.unborn h.new ≡ None) × (H.owed h.new ≡ []) }
     ensures lends { LendsAll (H.lent h.new) (H.pairs h.new) }
     ensures settled { result ≡ None → (H.entries h.new ≡ H.entries h.old) × (H.allowance h.new ≡ H.allowance h.old) × IsShortSettled (mesh_alone (H.opening h.old) (H.entries h.old)) (span_value e) }
-    ensures answered { IfSome result (λ x. IsAnswered (H.opening h.old) (H.allowance h.old) (H.entries h.old) (H.allowance h.new) (H.entries h.new) x) }
+    ensures answered { IfSome result (λ x. IsWorkedOff (H.opening h.old) (H.allowance h.old) (H.entries h.old) (H.allowance h.new) (H.entries h.new) x) }
 {
     if !seen.short {
         return None;
@@ -189,7 +189,7 @@ fn flip_answered<H: Holder>(alloc: Global, h: &mut H, e: Span, seen: EdgeSeen) -
     ensures nothing { (H.pairs h.new ≡ []) × (H.unborn h.new ≡ None) × (H.owed h.new ≡ []) }
     ensures lends { LendsAll (H.lent h.new) (H.pairs h.new) }
     ensures settled { result ≡ None → (H.entries h.new ≡ H.entries h.old) × (H.allowance h.new ≡ H.allowance h.old) × IsFlipSettled (mesh_alone (H.opening h.old) (H.entries h.old)) (span_value e) }
-    ensures answered { IfSome result (λ x. IsAnswered (H.opening h.old) (H.allowance h.old) (H.entries h.old) (H.allowance h.new) (H.entries h.new) x) }
+    ensures answered { IfSome result (λ x. IsWorkedOff (H.opening h.old) (H.allowance h.old) (H.entries h.old) (H.allowance h.new) (H.entries h.new) x) }
 {
     if !seen.shorter_flip {
         return None;
@@ -207,7 +207,7 @@ pub fn edge_answered<H: Holder>(alloc: Global, h: &mut H, a: u32, b: u32) -> Opt
     ensures nothing { (H.pairs h.new ≡ []) × (H.unborn h.new ≡ None) × (H.owed h.new ≡ []) }
     ensures lends { LendsAll (H.lent h.new) (H.pairs h.new) }
     ensures settled { result ≡ None → (H.entries h.new ≡ H.entries h.old) × (H.allowance h.new ≡ H.allowance h.old) × IsSettled (mesh_alone (H.opening h.old) (H.entries h.old)) (edge_of a b) }
-    ensures answered { IfSome result (λ x. IsAnswered (H.opening h.old) (H.allowance h.old) (H.entries h.old) (H.allowance h.new) (H.entries h.new) x) }
+    ensures answered { IfSome result (λ x. IsWorkedOff (H.opening h.old) (H.allowance h.old) (H.entries h.old) (H.allowance h.new) (H.entries h.new) x) }
 {
     let Some(seen) = edge_seen(h, a, b) else {
         return None;

@@ -5,7 +5,7 @@ ghost use Rattle.pf_model.specs.Lengths.{edge_of};
 ghost use Rattle.pf_holder.specs.Facts.{LendsAll, mesh_alone};
 ghost use Rattle.pf_finish.specs.Seen.{IsSettled};
 ghost use Rattle.pf_finish.specs.Done.{HasWorkedOff, IsFinished};
-ghost use Rattle.pf_finish.specs.Covers.{Covers, IsStep, IsNoted, IsSettledAt};
+ghost use Rattle.pf_finish.specs.Covers.{Covers, IsWorkStep, IsNoted, IsSettledAt};
 
 use crate::edges::edge_answered;
 use crate::todo::{Todo, changed_put, nodes_put};
@@ -40,7 +40,7 @@ fn edge_noted<H: Holder>(
     ensures same { H.same h.old h.new }
     ensures nothing { (H.pairs h.new ≡ []) × (H.unborn h.new ≡ None) × (H.owed h.new ≡ []) }
     ensures lends { LendsAll (H.lent h.new) (H.pairs h.new) }
-    ensures step { IsStep (H.opening h.old) (H.allowance h.old) (H.entries h.old) end.old (H.allowance h.new) (H.entries h.new) end.new }
+    ensures step { IsWorkStep (H.opening h.old) (H.allowance h.old) (H.entries h.old) end.old (H.allowance h.new) (H.entries h.new) end.new }
     ensures noted { IfSome result (λ x. IsNoted (mesh_alone (H.opening h.old) (H.entries h.new)) (H.allowance h.old) (H.allowance h.new) x) }
     ensures settled { result ≡ None → H.allowance h.new ≡ H.allowance h.old → IsSettled (mesh_alone (H.opening h.old) (H.entries h.old)) (edge_of a b) }
 {
@@ -68,7 +68,7 @@ fn next_answered<H: Holder>(
     ensures same { H.same h.old h.new }
     ensures nothing { (H.pairs h.new ≡ []) × (H.unborn h.new ≡ None) × (H.owed h.new ≡ []) }
     ensures lends { LendsAll (H.lent h.new) (H.pairs h.new) }
-    ensures step { IsStep (H.opening h.old) (H.allowance h.old) (H.entries h.old) end.old (H.allowance h.new) (H.entries h.new) end.new }
+    ensures step { IsWorkStep (H.opening h.old) (H.allowance h.old) (H.entries h.old) end.old (H.allowance h.new) (H.entries h.new) end.new }
     ensures noted { IfSome result (λ x. IsNoted (mesh_alone (H.opening h.old) (H.entries h.new)) (H.allowance h.old) (H.allowance h.new) x) }
 {
     'edges: while let Some(e) = todo.take() {
@@ -92,7 +92,7 @@ fn worked_off<H: Holder>(
     ensures same { H.same h.old h.new }
     ensures nothing { (H.pairs h.new ≡ []) × (H.unborn h.new ≡ None) × (H.owed h.new ≡ []) }
     ensures lends { LendsAll (H.lent h.new) (H.pairs h.new) }
-    ensures step { IsStep (H.opening h.old) (H.allowance h.old) (H.entries h.old) end.old (H.allowance h.new) (H.entries h.new) end.new }
+    ensures step { IsWorkStep (H.opening h.old) (H.allowance h.old) (H.entries h.old) end.old (H.allowance h.new) (H.entries h.new) end.new }
     ensures finished { IfSome result (λ x. IsFinished (mesh_alone (H.opening h.old) (H.entries h.new)) (H.allowance h.new) x) }
 {
     'turns: loop {
@@ -124,7 +124,7 @@ fn edge_followed<H: Holder>(
     ensures same { H.same h.old h.new }
     ensures nothing { (H.pairs h.new ≡ []) × (H.unborn h.new ≡ None) × (H.owed h.new ≡ []) }
     ensures lends { LendsAll (H.lent h.new) (H.pairs h.new) }
-    ensures step { IsStep (H.opening h.old) (H.allowance h.old) (H.entries h.old) end.old (H.allowance h.new) (H.entries h.new) end.new }
+    ensures step { IsWorkStep (H.opening h.old) (H.allowance h.old) (H.entries h.old) end.old (H.allowance h.new) (H.entries h.new) end.new }
     ensures finished { IfSome result (λ x. IsFinished (mesh_alone (H.opening h.old) (H.entries h.new)) (H.allowance h.new) x) }
     ensures settled { result ≡ None → H.allowance h.new ≡ H.allowance h.old → IsSettled (mesh_alone (H.opening h.old) (H.entries h.old)) (edge_of a b) }
 {
@@ -156,7 +156,7 @@ fn edges_followed<H: Holder>(
     ensures same { H.same h.old h.new }
     ensures nothing { (H.pairs h.new ≡ []) × (H.unborn h.new ≡ None) × (H.owed h.new ≡ []) }
     ensures lends { LendsAll (H.lent h.new) (H.pairs h.new) }
-    ensures step { IsStep (H.opening h.old) (H.allowance h.old) (H.entries h.old) end.old (H.allowance h.new) (H.entries h.new) end.new }
+    ensures step { IsWorkStep (H.opening h.old) (H.allowance h.old) (H.entries h.old) end.old (H.allowance h.new) (H.entries h.new) end.new }
     ensures finished { IfSome result (λ x. IsFinished (mesh_alone (H.opening h.old) (H.entries h.new)) (H.allowance h.new) x) }
     ensures settled { result ≡ None → H.allowance h.new ≡ H.allowance h.old → (x : ℕ) → Contains found.now x → IsSettled (mesh_alone (H.opening h.old) (H.entries h.old)) (edge_of n x) }
 {
@@ -182,7 +182,7 @@ fn node_followed<H: Holder>(
     ensures same { H.same h.old h.new }
     ensures nothing { (H.pairs h.new ≡ []) × (H.unborn h.new ≡ None) × (H.owed h.new ≡ []) }
     ensures lends { LendsAll (H.lent h.new) (H.pairs h.new) }
-    ensures step { IsStep (H.opening h.old) (H.allowance h.old) (H.entries h.old) end.old (H.allowance h.new) (H.entries h.new) end.new }
+    ensures step { IsWorkStep (H.opening h.old) (H.allowance h.old) (H.entries h.old) end.old (H.allowance h.new) (H.entries h.new) end.new }
     ensures finished { IfSome result (λ x. IsFinished (mesh_alone (H.opening h.old) (H.entries h.new)) (H.allowance h.new) x) }
     ensures settled { result ≡ None → H.allowance h.new ≡ H.allowance h.old → IsSettledAt (mesh_alone (H.opening h.old) (H.entries h.old)) n }
 {
@@ -210,7 +210,7 @@ fn named_followed<H: Holder>(
     ensures same { H.same h.old h.new }
     ensures nothing { (H.pairs h.new ≡ []) × (H.unborn h.new ≡ None) × (H.owed h.new ≡ []) }
     ensures lends { LendsAll (H.lent h.new) (H.pairs h.new) }
-    ensures step { IsStep (H.opening h.old) (H.allowance h.old) (H.entries h.old) end.old (H.allowance h.new) (H.entries h.new) end.new }
+    ensures step { IsWorkStep (H.opening h.old) (H.allowance h.old) (H.entries h.old) end.old (H.allowance h.new) (H.entries h.new) end.new }
     ensures finished { IfSome result (λ x. IsFinished (mesh_alone (H.opening h.old) (H.entries h.new)) (H.allowance h.new) x) }
     ensures settled { result ≡ None → H.allowance h.new ≡ H.allowance h.old → (n : ℕ) → Contains names.now n → IsSettledAt (mesh_alone (H.opening h.old) (H.entries h.old)) n }
 {
@@ -236,7 +236,7 @@ fn new_followed<H: Holder>(
     ensures same { H.same h.old h.new }
     ensures nothing { (H.pairs h.new ≡ []) × (H.unborn h.new ≡ None) × (H.owed h.new ≡ []) }
     ensures lends { LendsAll (H.lent h.new) (H.pairs h.new) }
-    ensures step { IsStep (H.opening h.old) (H.allowance h.old) (H.entries h.old) end.old (H.allowance h.new) (H.entries h.new) end.new }
+    ensures step { IsWorkStep (H.opening h.old) (H.allowance h.old) (H.entries h.old) end.old (H.allowance h.new) (H.entries h.new) end.new }
     ensures finished { IfSome result (λ x. IsFinished (mesh_alone (H.opening h.old) (H.entries h.new)) (H.allowance h.new) x) }
     ensures settled { result ≡ None → H.allowance h.new ≡ H.allowance h.old → (n : ℕ) → (H.opening h.old).mesh.first_new ≤ n → n < last → IsSettledAt (mesh_alone (H.opening h.old) (H.entries h.old)) n }
 {
@@ -263,7 +263,7 @@ fn pass_made<H: Holder>(
     ensures same { H.same h.old h.new }
     ensures nothing { (H.pairs h.new ≡ []) × (H.unborn h.new ≡ None) × (H.owed h.new ≡ []) }
     ensures lends { LendsAll (H.lent h.new) (H.pairs h.new) }
-    ensures step { IsStep (H.opening h.old) (H.allowance h.old) (H.entries h.old) end.old (H.allowance h.new) (H.entries h.new) end.new }
+    ensures step { IsWorkStep (H.opening h.old) (H.allowance h.old) (H.entries h.old) end.old (H.allowance h.new) (H.entries h.new) end.new }
     ensures finished { IfSome result (λ x. IsFinished (mesh_alone (H.opening h.old) (H.entries h.new)) (H.allowance h.new) x) }
     ensures fewer { result ≡ None → H.allowance h.new < H.allowance h.old }
 {

@@ -4,7 +4,7 @@ ghost use Rattle.pf_model.specs.Ends.{normal_of};
 ghost use Rattle.pf_model.specs.Conditions.{first_failing};
 ghost use Rattle.pf_holder.specs.Facts.{LendsAll, mesh_alone};
 ghost use Rattle.pf_finish.specs.Passing.{IsAnswer};
-ghost use Rattle.pf_finish.specs.Done.{IsAnswered, answered_of};
+ghost use Rattle.pf_finish.specs.Done.{IsWorkedOff, answered_of};
 
 use pf_attempt::{attempt, probe};
 use pf_core_model::Answer;
@@ -46,7 +46,7 @@ pub fn wish_tried<H: Holder>(alloc: Global, h: &mut H, chunk: u16, op: Op) -> Op
     ensures nothing { (H.pairs h.new ≡ []) × (H.unborn h.new ≡ None) × (H.owed h.new ≡ []) }
     ensures lends { LendsAll (H.lent h.new) (H.pairs h.new) }
     ensures fails { result ≡ None → (H.entries h.new ≡ H.entries h.old) × (H.allowance h.new ≡ H.allowance h.old) × (first_failing (mesh_alone (H.opening h.old) (H.entries h.old)) chunk op ≢ None) }
-    ensures answered { IfSome result (λ x. IsAnswered (H.opening h.old) (H.allowance h.old) (H.entries h.old) (H.allowance h.new) (H.entries h.new) x) }
+    ensures answered { IfSome result (λ x. IsWorkedOff (H.opening h.old) (H.allowance h.old) (H.entries h.old) (H.allowance h.new) (H.entries h.new) x) }
 {
     if h.allow() == 0 {
         return match probe(h, chunk, op) {

@@ -15,7 +15,7 @@ use Rattle.pf_core_model.specs.Sharers.{sharer_list, sharers_from, sharers_in}
 use Rattle.pf_ghost.specs.Renamed.{renamed_sharer}
 use Rattle.pf_ghost.specs.declared.ready.Listed.{Listed}
 use Rattle.pf_ghost.specs.Prepared.{ready_of, listed_of}
-use Rattle.pf_ghost.specs.Spread.{later_name, place_of, named_list, spread_at, SpreadPutsDue}
+use Rattle.pf_ghost.specs.Spread.{later_name, named_node, named_list, spread_at, SpreadPutsDue}
 
 -- a chunk shares a star under any names
 shares-renamed : (old new c : ℕ) (ss : List Spoke) → is_sharer c (map (renamed_spoke old new) ss) ≡ is_sharer c ss
@@ -36,15 +36,15 @@ sharers-renamed old new c (suc n) (Some s) = go (is_sharer c s.spokes) refl (sha
 -- what is put over the same copies gives the same
 spread-same : (name : ℕ) (ls : List Listed) (f g : ℕ → List Sharer) (n : ℕ) → f n ≡ g n → spread_at name ls f n ≡ spread_at name ls g n
 spread-same name [] f g n e = e
-spread-same name (l ∷ ls) f g n e = ap (λ (x : List Sharer). cond (n == place_of name l) (named_list name l) x) (spread-same name ls f g n e)
+spread-same name (l ∷ ls) f g n e = ap (λ (x : List Sharer). cond (n == named_node name l) (named_list name l) x) (spread-same name ls f g n e)
 
 -- the last list is put first
-spread-last : (name : ℕ) (ls : List Listed) (l : Listed) (f g : ℕ → List Sharer) (n : ℕ) → g n ≡ cond (n == place_of name l) (named_list name l) (f n) → spread_at name ls g n ≡ spread_at name (ls ++ l ∷ []) f n
+spread-last : (name : ℕ) (ls : List Listed) (l : Listed) (f g : ℕ → List Sharer) (n : ℕ) → g n ≡ cond (n == named_node name l) (named_list name l) (f n) → spread_at name ls g n ≡ spread_at name (ls ++ l ∷ []) f n
 spread-last name [] l f g n e = e
-spread-last name (k ∷ ks) l f g n e = ap (λ (x : List Sharer). cond (n == place_of name k) (named_list name k) x) (spread-last name ks l f g n e)
+spread-last name (k ∷ ks) l f g n e = ap (λ (x : List Sharer). cond (n == named_node name k) (named_list name k) x) (spread-last name ks l f g n e)
 
 -- a list is put, and the others are left
-pub one_put : (name : ℕ) (all ls : List Listed) (l : Listed) (f g : ℕ → List Sharer) (whole : ℕ → List Sharer) → all ≡ ls ++ l ∷ [] → ((n : ℕ) → g n ≡ cond (n == place_of name l) (named_list name l) (f n)) → ((n : ℕ) → spread_at name all f n ≡ whole n) → (n : ℕ) → spread_at name ls g n ≡ whole n
+pub one_put : (name : ℕ) (all ls : List Listed) (l : Listed) (f g : ℕ → List Sharer) (whole : ℕ → List Sharer) → all ≡ ls ++ l ∷ [] → ((n : ℕ) → g n ≡ cond (n == named_node name l) (named_list name l) (f n)) → ((n : ℕ) → spread_at name all f n ≡ whole n) → (n : ℕ) → spread_at name ls g n ≡ whole n
 one_put name all ls l f g whole is put kept n = spread-last name ls l f g n (put n) ∙ ap (λ (x : List Listed). spread_at name x f n) (sym is) ∙ kept n
 
 pub in_front : (l : Listed) (ls : List Listed) (k : Listed) → Contains ls k → Contains (ls ++ l ∷ []) k

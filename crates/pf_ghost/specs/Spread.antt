@@ -15,8 +15,8 @@ abbrev pub later_name : ℕ
 later_name = 4294967295
 
 -- the node of a list, with the new node's name in its place
-abbrev pub place_of : ℕ → Listed → ℕ
-place_of name l = renamed later_name name l.node
+abbrev pub named_node : ℕ → Listed → ℕ
+named_node name l = renamed later_name name l.node
 
 -- its copies, with that name in them
 abbrev pub named_list : ℕ → Listed → List Sharer
@@ -25,7 +25,7 @@ named_list name l = map (renamed_sharer later_name name) l.list
 -- the copies of the node n once these lists were put over the copies of all nodes
 abbrev pub spread_at : ℕ → List Listed → (ℕ → List Sharer) → ℕ → List Sharer
 spread_at name [] copies n = copies n
-spread_at name (l ∷ ls) copies n = cond (n == place_of name l) (named_list name l) (spread_at name ls copies n)
+spread_at name (l ∷ ls) copies n = cond (n == named_node name l) (named_list name l) (spread_at name ls copies n)
 
 -- each changed node gets the due copies of its new star, by its true name, and no other node's copies change
 pub record ArePut (chunks name : ℕ) (fresh : List Held) (copies : ℕ → List Sharer) : Type 0 where

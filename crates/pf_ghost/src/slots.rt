@@ -2,7 +2,7 @@
 ghost use Rattle.std.specs.Prelude.{◌≡◌, ℕ, List, cond, ◌==◌, Contains};
 ghost use Rattle.pf_core_model.specs.declared.sharer.Sharer.{Sharer};
 ghost use Rattle.pf_ghost.specs.declared.ready.Listed.{Listed};
-ghost use Rattle.pf_ghost.specs.Spread.{named_list, place_of, spread_at};
+ghost use Rattle.pf_ghost.specs.Spread.{named_list, named_node, spread_at};
 
 use crate::ready::{Listed, Ready};
 use crate::sharers::Sharers;
@@ -34,8 +34,8 @@ pub trait Slots {
 
 // Puts one list, with the name in the new node's place.
 fn put_listed<T: Slots>(listed: Listed, name: u32, to: &mut T)
-    requires accepted { T.accepts to.old (place_of name listed) }
-    ensures copies { (n : ℕ) → T.copies to.new n ≡ cond (n == place_of name listed) (named_list name listed) (T.copies to.old n) }
+    requires accepted { T.accepts to.old (named_node name listed) }
+    ensures copies { (n : ℕ) → T.copies to.new n ≡ cond (n == named_node name listed) (named_list name listed) (T.copies to.old n) }
     ensures accepts { (n : ℕ) → T.accepts to.old n → T.accepts to.new n }
     ensures same { T.same to.old to.new }
 {
@@ -47,7 +47,7 @@ fn put_listed<T: Slots>(listed: Listed, name: u32, to: &mut T)
 /// Puts each list that was prepared, with `name` in the new node's place. It only moves values and takes no
 /// memory. Each place so named is accepted.
 pub fn spread<T: Slots>(ready: Ready, name: u32, to: &mut T)
-    requires accepted { (l : Listed) → Contains ready l → T.accepts to.old (place_of name l) }
+    requires accepted { (l : Listed) → Contains ready l → T.accepts to.old (named_node name l) }
     ensures copies { (n : ℕ) → T.copies to.new n ≡ spread_at name ready (T.copies to.old) n }
     ensures accepts { (n : ℕ) → T.accepts to.old n → T.accepts to.new n }
     ensures same { T.same to.old to.new }

@@ -43,11 +43,11 @@ use Rattle.pf_core_model.specs.State.{can_judge}
 use Rattle.pf_core_model.proofs.Judged.{judged_is, can_judge_held}
 use Rattle.pf_core_model.proofs.Sharing.{none_due}
 use Rattle.pf_core_model.proofs.Owing.{fresh_nodes}
-use Rattle.pf_board_steps.specs.Plays.{CanMake, fresh_at}
+use Rattle.pf_board_steps.specs.Plays.{CanCommit, fresh_at}
 use Rattle.pf_board_steps.proofs.Guards.{made_patch}
 use Rattle.pf_ghost.specs.declared.ready.Listed.{Listed}
 use Rattle.pf_ghost.specs.Prepared.{ready_of, listed_of}
-use Rattle.pf_ghost.specs.Spread.{later_name, place_of, spread_at, SpreadPutsDue}
+use Rattle.pf_ghost.specs.Spread.{later_name, named_node, spread_at, SpreadPutsDue}
 use Rattle.pf_holder.specs.Facts as holder
 use Rattle.pf_holder.specs.Facts.{IsSeen}
 use Rattle.pf_holder.specs.Prepared.{fresh_of, IsReady}
@@ -66,7 +66,7 @@ pub seen_mesh : (o : Opening) (v : View) (m : Undivided) → v.bands ≡ o.mesh.
 seen_mesh o v m e is = record { conforming = is.conforming; banded = is.bands ∙ e; shown = is.pairs }
 
 -- what a holder may commit, the board may
-pub can_make : (o : Opening) (v : View) (chunk : ℕ) (op : Op) → KnowsMesh o v → holder.IsJudged o.mesh.bands v.held chunk op None → holder.HoldsCavity o.mesh.bands v.held chunk op → CanMake v chunk op
+pub can_make : (o : Opening) (v : View) (chunk : ℕ) (op : Op) → KnowsMesh o v → holder.IsJudged o.mesh.bands v.held chunk op None → holder.HoldsCavity o.mesh.bands v.held chunk op → CanCommit v chunk op
 can_make o v chunk op k j c = (all, ap (λ (l : List Band). judged (star_held v.held) l chunk op) (sym is.bands) ∙ judged_is k.mesh is.conforming v.held is.pairs chunk op able ∙ passes)
   where
     is : IsMeshOf v k.mesh
@@ -142,7 +142,7 @@ second_patched lent new m chunk (Contract u v) p s e =
     let apart = (contract_passes m chunk u v p).apart in
     (k.0, ap (λ (t : Bool). cond t None (kept_star lent new (Contract u v) v)) (eq_false v u (λ q. apart (sym q))) ∙ k.1)
 
-module _ (v : View) (chunk t : ℕ) (op : Op) (can : CanMake v chunk op) (m : Undivided) (is : IsMeshOf v m) (new : IsFresh m t) (small : v.first_new + t ≤ later_name) where
+module _ (v : View) (chunk t : ℕ) (op : Op) (can : CanCommit v chunk op) (m : Undivided) (is : IsMeshOf v m) (new : IsFresh m t) (small : v.first_new + t ≤ later_name) where
   abbrev lent : ℕ → Option Star
   lent = star_held v.held
 
@@ -245,7 +245,7 @@ module _ (v : View) (chunk t : ℕ) (op : Op) (can : CanMake v chunk op) (m : Un
       let p = second_patched lent name m chunk op passes s.0 s.1 in
       (p.0, sym (patched_is_star m lent chunk t op applies ends n ends.1) ∙ p.1)
 
-module _ (o : Opening) (s t : BoardSeat) (chunk k name : ℕ) (op : Op) (ready : List Listed) (named : name ≡ o.mesh.first_new + k) (h : IsHand o s false) (can : CanMake s.seat.me.0 chunk op) (told : TellsCommit o k chunk op s t) (are : IsReady (star_held s.seat.me.0.held) s.seat.me.0.chunks op ready) where
+module _ (o : Opening) (s t : BoardSeat) (chunk k name : ℕ) (op : Op) (ready : List Listed) (named : name ≡ o.mesh.first_new + k) (h : IsHand o s false) (can : CanCommit s.seat.me.0 chunk op) (told : TellsCommit o k chunk op s t) (are : IsReady (star_held s.seat.me.0.held) s.seat.me.0.chunks op ready) where
   abbrev v : View
   v = s.seat.me.0
 
@@ -268,12 +268,12 @@ module _ (o : Opening) (s t : BoardSeat) (chunk k name : ℕ) (op : Op) (ready :
   held_is = ap (λ (u : View). u.held) told.view
 
   -- each place is that of a node that is held after the commit
-  pub places_held : (l : Listed) → Contains ready l → In (place_of name l) (nodes_of t.seat.me.0)
+  pub places_held : (l : Listed) → Contains ready l → In (named_node name l) (nodes_of t.seat.me.0)
   places_held l i =
       let r = map-means (listed_of v.chunks) (fresh_of (star_held v.held) op) l (subst (λ (x : List Listed). Contains x l) are i) in
-      subst (λ (x : List ℕ). In (place_of name l) x) (sym (ap (λ (x : List Held). nodes_in x) held_is ∙ made_nodes))
-      (subst (λ (x : ℕ). In (place_of x l) (made_by (told.makes.mesh.first_new + k) op ++ nodes_of v)) (sym is_name)
-      (subst (λ (x : Listed). In (place_of (told.makes.mesh.first_new + k) x) (made_by (told.makes.mesh.first_new + k) op ++ nodes_of v)) r.2
+      subst (λ (x : List ℕ). In (named_node name l) x) (sym (ap (λ (x : List Held). nodes_in x) held_is ∙ made_nodes))
+      (subst (λ (x : ℕ). In (named_node x l) (made_by (told.makes.mesh.first_new + k) op ++ nodes_of v)) (sym is_name)
+      (subst (λ (x : Listed). In (named_node (told.makes.mesh.first_new + k) x) (made_by (told.makes.mesh.first_new + k) op ++ nodes_of v)) r.2
       (placed v chunk k op can told.makes.mesh told.makes.before told.makes.fresh low r.0 r.1)))
 
   agrees_after : (p : Held) → In p made → p.star ≡ star_of (applied told.makes.mesh (entry_of k chunk op)) p.node

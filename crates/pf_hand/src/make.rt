@@ -2,7 +2,7 @@
 ghost use Rattle.std.specs.Prelude.{◌≡◌, ◌<◌, true, false};
 ghost use Rattle.pf_star_model.specs.Lent.{star_held};
 ghost use Rattle.pf_core_model.specs.Cavity.{makes_node};
-ghost use Rattle.pf_board_steps.specs.Plays.{CanMake};
+ghost use Rattle.pf_board_steps.specs.Plays.{CanCommit};
 ghost use Rattle.pf_holder.specs.Prepared.{IsReady};
 ghost use Rattle.pf_locks.specs.Seats.{TellsCount};
 ghost use Rattle.pf_hand.specs.Hands.{IsHand, made_view};
@@ -28,7 +28,7 @@ pub fn make(board: &Board, s: &mut BoardSeat, chunk: u16, op: Op, ready: Ready) 
     requires board { s.old.seat.table_id ≡ board.now.table.shared.table_id }
     requires hand { IsHand board.now.table.shared.key s.old false }
     requires rich { 0 < s.old.seat.me.0.allowance }
-    requires makes { CanMake s.old.seat.me.0 chunk op }
+    requires makes { CanCommit s.old.seat.me.0 chunk op }
     requires ready { IsReady (star_held s.old.seat.me.0.held) s.old.seat.me.0.chunks op ready }
     ensures board { s.new.seat.table_id ≡ s.old.seat.table_id }
     ensures hand { IsHand board.now.table.shared.key s.new true }

@@ -70,10 +70,10 @@ TellsOf m chunk op Spent = Unit {0}
 TellsOf m chunk op Memory = Unit {0}
 
 -- it was done, or no memory was left
-abbrev pub IsDone : Answer → Type 0
-IsDone (Done t) = Unit {0}
-IsDone Memory = Unit {0}
-IsDone _ = ⊥
+abbrev pub IsDoneAnswer : Answer → Type 0
+IsDoneAnswer (Done t) = Unit {0}
+IsDoneAnswer Memory = Unit {0}
+IsDoneAnswer _ = ⊥
 
 -- no lost try and no find was gained
 pub record FoundNothing (gained : Gain → Type 0) : Type 0 where

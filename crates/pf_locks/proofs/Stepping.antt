@@ -15,10 +15,10 @@ use Rattle.pf_core_model.specs.declared.view.View.{View}
 use Rattle.pf_core_model.specs.Lists.{In, times}
 use Rattle.pf_core_model.specs.Sharers.{sharers_in}
 use Rattle.pf_core_model.specs.Core.{Opening, names_of, tickets_of, IsSound}
-use Rattle.pf_core_model.specs.Guards.{IsJudged}
+use Rattle.pf_core_model.specs.Guards.{IsViewJudged}
 use Rattle.pf_core_model.proofs.Lists.{set_again, total_at, times_out}
 use Rattle.pf_core_model.proofs.Seats.{seat_knows}
-use Rattle.pf_board_steps.specs.Plays.{BoardState, Mine, Holds, Frees, CanMake, fresh_at}
+use Rattle.pf_board_steps.specs.Plays.{BoardState, Mine, Holds, Frees, CanCommit, fresh_at}
 use Rattle.pf_board_steps.proofs.Steps.{refuses_step, commits_step, releases_step, buries_step}
 use Rattle.pf_board_steps.proofs.Guards.{made_patch}
 use Rattle.pf_locks.specs.Told.{Looks, FailsNoted, DrawsFor}
@@ -51,13 +51,13 @@ module _ (o : Opening) (slots id : ℕ) (me : Mine) where
       (subst (λ (l : List ℕ). IsSound o l s.homes s.views) (sym (set-get_or s.words (names_of o) 0)) h) in
       (me.0, keeps, tt, same, ((seat_knows o s.words s.homes s.views h.0 h.1 id me.0 at actor, sym long ∙ h.1.homes_long), once_in o s h id me.0 at, number_in o s h id me.0 at, rich_in o s h id me.0 at, refl))
 
-  pub fails_noted : (e : Entry) (why : Cond) → me.0.numbers ≢ [] → IsJudged me.0 e.chunk e.op (Some why)
+  pub fails_noted : (e : Entry) (why : Cond) → me.0.numbers ≢ [] → IsViewJudged me.0 e.chunk e.op (Some why)
       → Allows (Holds o) slots id me (names_of o) (λ x. x) (FailsNoted o e (step slots (names_of o) 0 0 none) me)
   fails_noted e why actor judged s h long at small =
       let r = refuses_step o slots id me e.chunk e.op why actor judged s h long at small in
       (r.0, r.1, r.2, r.3, (why, judged, r.4))
 
-  pub draws_for : (e : Entry) → me.0.numbers ≢ [] → me.0.unborn ≡ None → 0 < me.0.allowance → CanMake me.0 e.chunk e.op
+  pub draws_for : (e : Entry) → me.0.numbers ≢ [] → me.0.unborn ≡ None → 0 < me.0.allowance → CanCommit me.0 e.chunk e.op
       → Allows (Holds o) slots id me (names_of o) (λ x. (x + 1) % 2 ^ 64) (DrawsFor o e (step slots (names_of o) 1 0 none) me)
   draws_for e actor clear rich can = let r = made_patch me.0 e can in commits_step o slots id me e (fresh_at me.0 e) actor clear rich r.0 r.1 r.2
 

@@ -15,7 +15,7 @@ use Rattle.pf_core_model.specs.Cavity.{makes_node}
 use Rattle.pf_core_model.specs.Sharers.{sharers_in}
 use Rattle.pf_core_model.specs.Moves.{locked, lost_to, found_dead, found_never, noted, refused, committed, unborn_by, spares_in, left_of, right_of}
 use Rattle.pf_core_model.specs.Core.{Opening, names_of, mesh_after, number_of, nodes_of}
-use Rattle.pf_core_model.specs.Guards.{IsAlone, IsJudged}
+use Rattle.pf_core_model.specs.Guards.{IsAlone, IsViewJudged}
 use Rattle.pf_core_model.specs.Seats.{own_log, Knows}
 use Rattle.pf_board_steps.specs.Plays.{Mine, IsHeldNeighbour, fresh_at, Makes}
 use Rattle.pf_holder.specs.declared.holder.Hold.{Hold}
@@ -88,12 +88,12 @@ TellsAlone o n v found = IsLive (mesh_after o (own_log v)) n → ⊥
 -- what is asked at a note fails, as the view tells
 abbrev pub IsAskable : View → Option Asked → Type 0
 IsAskable v None = Unit {0}
-IsAskable v (Some q) = (why : Cond) × IsJudged v q.chunk q.op (Some why)
+IsAskable v (Some q) = (why : Cond) × IsViewJudged v q.chunk q.op (Some why)
 
 -- the view after a note at this count
 abbrev pub TellsNote : ℕ → View → View → Option Asked → Type 0
 TellsNote t v w None = w ≡ noted v t
-TellsNote t v w (Some q) = (why : Cond) × IsJudged v q.chunk q.op (Some why) × (w ≡ refused v t q.chunk q.op why)
+TellsNote t v w (Some q) = (why : Cond) × IsViewJudged v q.chunk q.op (Some why) × (w ≡ refused v t q.chunk q.op why)
 
 -- the count is what was seen or more, within the budget; and what was seen, where the seat is alone
 abbrev pub TellsCount : Opening → View → ℕ → Type 0

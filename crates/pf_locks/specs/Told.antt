@@ -8,7 +8,7 @@ use Rattle.pf_model.specs.Mesh.{Undivided}
 use Rattle.pf_core_model.specs.declared.sharer.Sharer.{Sharer}
 use Rattle.pf_core_model.specs.Lists.{times}
 use Rattle.pf_core_model.specs.Core.{Opening, tickets_of}
-use Rattle.pf_core_model.specs.Guards.{IsJudged}
+use Rattle.pf_core_model.specs.Guards.{IsViewJudged}
 use Rattle.pf_board_steps.specs.Plays.{Mine, After, Refuses, Commits, fresh_at}
 
 -- the values that no call picks
@@ -27,7 +27,7 @@ Looks o st v found w = After o st w × ((t : ℕ) → times t (tickets_of v.0) �
 
 -- an operation is refused at the count of tickets, by a condition that it fails as the view tells
 abbrev pub FailsNoted : Opening → Entry → Step (List Sharer) → Mine → ℕ → Mine → Type 0
-FailsNoted o e st v found w = (why : Cond) × IsJudged v.0 e.chunk e.op (Some why) × Refuses o e.chunk e.op why st v found w
+FailsNoted o e st v found w = (why : Cond) × IsViewJudged v.0 e.chunk e.op (Some why) × Refuses o e.chunk e.op why st v found w
 
 -- an operation is made with the ticket that was drawn, and the held pairs are patched
 abbrev pub DrawsFor : Opening → Entry → Step (List Sharer) → Mine → ℕ → Mine → Type 0

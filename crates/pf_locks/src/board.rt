@@ -9,8 +9,8 @@ ghost use Rattle.pf_core_model.specs.Cavity.{makes_node};
 ghost use Rattle.pf_core_model.specs.Sharers.{sharers_in};
 ghost use Rattle.pf_core_model.specs.Moves.{left_of, right_of, both_of, born, released, spares_in};
 ghost use Rattle.pf_core_model.specs.Core.{names_of, held_by, number_of, nodes_of};
-ghost use Rattle.pf_core_model.specs.Guards.{IsAlone, IsJudged};
-ghost use Rattle.pf_board_steps.specs.Plays.{Tries, Frees, Births, Notes, CanMake, IsHeldNeighbour};
+ghost use Rattle.pf_core_model.specs.Guards.{IsAlone, IsViewJudged};
+ghost use Rattle.pf_board_steps.specs.Plays.{Tries, Frees, Births, Notes, CanCommit, IsHeldNeighbour};
 ghost use Rattle.pf_locks.specs.Told.{Looks, FailsNoted, DrawsFor};
 ghost use Rattle.pf_locks.specs.Turned.{rotated};
 ghost use Rattle.pf_locks.specs.Lists.{names_in, list_in, lent_in, slots_of};
@@ -158,7 +158,7 @@ impl Board {
         requires acts { seat.old.me.0.numbers ≢ [] }
         requires clear { seat.old.me.0.unborn ≡ None }
         requires rich { 0 < seat.old.me.0.allowance }
-        requires makes { CanMake seat.old.me.0 chunk op }
+        requires makes { CanCommit seat.old.me.0 chunk op }
         ensures board { seat.new.table_id ≡ seat.old.table_id }
         ensures told { DrawsFor self.now.table.shared.key (record { ticket = 0; chunk = chunk; op = op }) (step self.now.table.shared.table_id.slots self.now.names 1 0 none) seat.old.me result seat.new.me }
     {
@@ -303,7 +303,7 @@ impl Board {
         requires clear { s.old.seat.me.0.unborn ≡ None }
         requires live { HoldsLive s.old.seat.me.0 }
         requires rich { 0 < s.old.seat.me.0.allowance }
-        requires makes { CanMake s.old.seat.me.0 chunk op }
+        requires makes { CanCommit s.old.seat.me.0 chunk op }
         requires few { makes_node op ≡ true → length s.old.seat.me.0.held < 66 }
         ensures board { s.new.seat.table_id ≡ s.old.seat.table_id }
         ensures seat { IsSeat self.now.table.shared.key s.new }

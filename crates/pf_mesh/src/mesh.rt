@@ -15,7 +15,7 @@ ghost use Rattle.pf_model.specs.Wishes.{rest_of};
 ghost use Rattle.pf_model.specs.Limits.{most_names};
 ghost use Rattle.pf_cover_model.specs.Alike.{CoversAlike, KeepsFans};
 ghost use Rattle.pf_edges.specs.Kept.{mesh_of, IsKept};
-ghost use Rattle.pf_rules.specs.Change.{CanMake, IsChange};
+ghost use Rattle.pf_rules.specs.Change.{PassesWithName, IsChange};
 ghost use Rattle.pf_apply.specs.Run.{IsStopped, stop_of};
 
 use crate::entering::table_of;
@@ -433,9 +433,9 @@ impl Mesh {
     // Performs an operation that passes. A bisection's new node is named `n`. All room is made before
     // anything changes.
     fn perform(&mut self, n: u32, op: Op, change: &Change) -> Result<(), NoMemory>
-        requires can { CanMake self.old.mesh n op }
+        requires can { PassesWithName self.old.mesh n op }
         requires change { IsChange self.old.mesh n op change.now.removed.items change.now.new.items }
-        ensures ok { OnOk result ((can : CanMake self.old.mesh n op) → self.new.mesh ≡ op_applied self.old.mesh can.ticket op) }
+        ensures ok { OnOk result ((can : PassesWithName self.old.mesh n op) → self.new.mesh ≡ op_applied self.old.mesh can.ticket op) }
         ensures err { OnErr result (self.new.mesh ≡ self.old.mesh) }
     {
         let triangles = change.new.len();

@@ -29,7 +29,7 @@ use Rattle.pf_patch.specs.declared.tris.Corner.{Corner}
 use Rattle.pf_patch.specs.declared.tris.NewTri.{NewTri}
 use Rattle.pf_patch.specs.declared.tris.Gone.TheVariants.{AtEdge, AtNode}
 use Rattle.pf_patch.specs.Tris.{IsStanding, star_with, tri_value}
-use Rattle.pf_patch.specs.Plans.{later, origin, corner, flipped, flipped_of, cut, cut_of, moved, moved_of, middle_or, spot_in, born_of, born_at, made_or, planned, planned_pair, gone_by, tris_by, dead_by, born_by}
+use Rattle.pf_patch.specs.Plans.{later, origin, corner, flip_triangles, flip_triangles_of, cut, cut_of, moved, moved_of, middle_or, spot_in, born_of, born_at, made_or, planned, planned_pair, gone_by, tris_by, dead_by, born_by}
 use Rattle.pf_patch.specs.declared.plan.Plan.{Plan}
 use Rattle.pf_patch.specs.Made.{IsPlan}
 use Rattle.pf_patch.proofs.Bridge.{star-model}
@@ -81,7 +81,7 @@ module _ (m : Undivided) (ok : IsConforming m) (lent : ℕ → Option Star) (chu
   shows x i = subst (λ o. place_of (sight_of [] o) x ≡ place_of m x) (star-live m lo seen.live) (place-shown m [] lo x seen.live i)
 
   abbrev put : List NewTri
-  put = flipped (corner lo (place_of m lo)) (first_to hi ss) (first_from hi ss)
+  put = flip_triangles (corner lo (place_of m lo)) (first_to hi ss) (first_from hi ss)
 
   apart : (x y : Spoke) → first_to hi ss ≡ Some x → first_from hi ss ≡ Some y → AreDistinct lo y.right x.left × AreDistinct hi x.left y.right
   apart x y e f =
@@ -98,7 +98,7 @@ module _ (m : Undivided) (ok : IsConforming m) (lent : ℕ → Option Star) (chu
   put-tris = turned-tris (corner lo (place_of m lo)) (corner hi origin) (first_to hi ss) (first_from hi ss) (λ s e. (first_to-some hi ss s e).1) ∙ (λ i. flip_added lo hi (first_to-side hi ss i) (first_from-side hi ss i))
 
   abbrev flip_f : ℕ → Option Star → Option Star
-  flip_f n o = option_map (star_with (AtEdge lo hi) (flipped_of lo hi o)) (lent n)
+  flip_f n o = option_map (star_with (AtEdge lo hi) (flip_triangles_of lo hi o)) (lent n)
 
   abbrev flip_g : ℕ → Option Star → Option Star
   flip_g n o = option_map (star_after (sight_of [] o) (is_at_edge lo hi) (flip_added lo hi (side_to hi (spokes_in o)) (side_from hi (spokes_in o)))) (lent n)

@@ -9,7 +9,7 @@ use Rattle.pf_spokes.specs.Spokes.{HasSpots}
 use Rattle.pf_patch.specs.declared.tris.Corner.{Corner}
 use Rattle.pf_patch.specs.declared.tris.NewTri.{NewTri}
 use Rattle.pf_patch.specs.Tris.{HasCorners, HasSpot}
-use Rattle.pf_patch.specs.Plans.{flipped, left_halves, right_halves, moved, moved_one, right_of, left_of, tri}
+use Rattle.pf_patch.specs.Plans.{flip_triangles, left_halves, right_halves, moved, moved_one, right_of, left_of, tri}
 use Rattle.pf_patch.proofs.Bridge.{all-member, all-from}
 
 none-all : All HasCorners []
@@ -18,7 +18,7 @@ none-all = all-from HasCorners [] (λ t h. absurd (nowhere t h))
 two-all : (s t : NewTri) → HasCorners s → HasCorners t → All HasCorners (s ∷ t ∷ [])
 two-all s t hs ht = all-from HasCorners (s ∷ t ∷ []) (λ x h. elim (cases x s (t ∷ []) h) [ inl e ↦ subst HasCorners (sym e) hs | inr i ↦ elim (cases x t [] i) [ inl e ↦ subst HasCorners (sym e) ht | inr z ↦ absurd (nowhere x z) ] ])
 
-pub turned-spots : (lo : Corner) (l r : Option Spoke) → HasSpot lo → IfSome l HasSpots → IfSome r HasSpots → All HasCorners (flipped lo l r)
+pub turned-spots : (lo : Corner) (l r : Option Spoke) → HasSpot lo → IfSome l HasSpots → IfSome r HasSpots → All HasCorners (flip_triangles lo l r)
 turned-spots lo None r h hl hr = none-all
 turned-spots lo (Some l) None h hl hr = none-all
 turned-spots lo (Some l) (Some r) h hl hr = two-all (tri lo (right_of r) (left_of l) l.owner) (tri (right_of l) (left_of l) (right_of r) r.owner) record { first = h; second = hr.right; third = hl.left } record { first = hl.right; second = hl.left; third = hr.right }

@@ -22,7 +22,7 @@ use Rattle.pf_rings.specs.Points.{first_to, first_from, left_side, right_side}
 use Rattle.pf_patch.specs.declared.tris.Corner.{Corner}
 use Rattle.pf_patch.specs.declared.tris.NewTri.{NewTri}
 use Rattle.pf_patch.specs.Tris.{IsStanding, tri_value}
-use Rattle.pf_patch.specs.Plans.{corner, right_of, left_of, flipped, halves, left_halves, right_halves, cut, end_at, moved, moved_one}
+use Rattle.pf_patch.specs.Plans.{corner, right_of, left_of, flip_triangles, halves, left_halves, right_halves, cut, end_at, moved, moved_one}
 
 eq_holds : (a b : ℕ) → (a == b) ≡ true → a ≡ b
 eq_holds a b h = grind (arith, nat_tests)
@@ -64,7 +64,7 @@ first_from-some n (x ∷ xs) s h = go (x.left == n) refl h (λ e. first_from-som
     go false e f ih = let r = ih f in (there s x xs r.0, r.1)
 
 -- the triangles that a flip puts in
-pub turned-tris : (lo hi : Corner) (l r : Option Spoke) → ((s : Spoke) → l ≡ Some s → s.right ≡ hi.name) → map tri_value (flipped lo l r) ≡ flip_added lo.name hi.name (option_map left_side l) (option_map right_side r)
+pub turned-tris : (lo hi : Corner) (l r : Option Spoke) → ((s : Spoke) → l ≡ Some s → s.right ≡ hi.name) → map tri_value (flip_triangles lo l r) ≡ flip_added lo.name hi.name (option_map left_side l) (option_map right_side r)
 turned-tris lo hi None r h = refl
 turned-tris lo hi (Some l) None h = refl
 turned-tris lo hi (Some l) (Some r) h = ap (λ q. tri_of lo.name r.right l.left l.owner ∷ tri_of q l.left r.right r.owner ∷ []) (h l refl)
@@ -117,7 +117,7 @@ module _ (m : Undivided) (ok : IsConforming m) (n : ℕ) (w : Undivided) (shows 
   distinct s h = (corners_of m ok n s.right s.left s.owner (spokes-means m ok n s h)).distinct
 
   -- what a flip puts in stands
-  pub turned-stand : (hi : ℕ) (l r : Option Spoke) → ((s : Spoke) → l ≡ Some s → Contains ss s × (s.right ≡ hi)) → ((s : Spoke) → r ≡ Some s → Contains ss s × (s.left ≡ hi)) → ((a b : Spoke) → l ≡ Some a → r ≡ Some b → AreDistinct n b.right a.left × AreDistinct hi a.left b.right) → (t : NewTri) → Contains (flipped (corner n (place_of m n)) l r) t → IsStanding w t
+  pub turned-stand : (hi : ℕ) (l r : Option Spoke) → ((s : Spoke) → l ≡ Some s → Contains ss s × (s.right ≡ hi)) → ((s : Spoke) → r ≡ Some s → Contains ss s × (s.left ≡ hi)) → ((a b : Spoke) → l ≡ Some a → r ≡ Some b → AreDistinct n b.right a.left × AreDistinct hi a.left b.right) → (t : NewTri) → Contains (flip_triangles (corner n (place_of m n)) l r) t → IsStanding w t
   turned-stand hi None r hl hr d t h = absurd (nowhere t h)
   turned-stand hi (Some l) None hl hr d t h = absurd (nowhere t h)
   turned-stand hi (Some l) (Some r) hl hr d t h =

@@ -40,10 +40,10 @@ abbrev pub left_of : Spoke → Corner
 left_of s = corner s.left s.left_at
 
 -- the two triangles that a flip puts in: `lo` is the star's node, and the spokes are those at its edge to `hi`
-abbrev pub flipped : Corner → Option Spoke → Option Spoke → List NewTri
-flipped lo None r = []
-flipped lo (Some l) None = []
-flipped lo (Some l) (Some r) = tri lo (right_of r) (left_of l) l.owner ∷ tri (right_of l) (left_of l) (right_of r) r.owner ∷ []
+abbrev pub flip_triangles : Corner → Option Spoke → Option Spoke → List NewTri
+flip_triangles lo None r = []
+flip_triangles lo (Some l) None = []
+flip_triangles lo (Some l) (Some r) = tri lo (right_of r) (left_of l) l.owner ∷ tri (right_of l) (left_of l) (right_of r) r.owner ∷ []
 
 -- where the other end of the edge stands
 abbrev pub end_at : Option Spoke → Option Spoke → Point
@@ -112,16 +112,16 @@ cut_on lo hi None = []
 cut_on lo hi (Some e) = cut (corner later (middle_or e.at (end_at e.left e.right))) (corner lo e.at) (corner hi (end_at e.left e.right)) e.left e.right
 
 -- what a flip puts in
-abbrev pub flipped_on : ℕ → Option Edge → List NewTri
-flipped_on lo None = []
-flipped_on lo (Some e) = flipped (corner lo e.at) e.left e.right
+abbrev pub flip_triangles_on : ℕ → Option Edge → List NewTri
+flip_triangles_on lo None = []
+flip_triangles_on lo (Some e) = flip_triangles (corner lo e.at) e.left e.right
 
 -- the same by the star of the edge's lower end
 abbrev pub cut_of : ℕ → ℕ → Option Star → List NewTri
 cut_of lo hi star = cut_on lo hi (option_map (edge_in hi) star)
 
-abbrev pub flipped_of : ℕ → ℕ → Option Star → List NewTri
-flipped_of lo hi star = flipped_on lo (option_map (edge_in hi) star)
+abbrev pub flip_triangles_of : ℕ → ℕ → Option Star → List NewTri
+flip_triangles_of lo hi star = flip_triangles_on lo (option_map (edge_in hi) star)
 
 abbrev pub moved_of : ℕ → Option Star → List NewTri
 moved_of v None = []
@@ -129,7 +129,7 @@ moved_of v (Some s) = moved (corner v (spot_in v s.spokes)) s.spokes
 
 -- what is put in
 abbrev pub tris_by : (ℕ → Option Star) → Op → List NewTri
-tris_by lent (Flip a b) = flipped_of (min a b) (max a b) (lent (min a b))
+tris_by lent (Flip a b) = flip_triangles_of (min a b) (max a b) (lent (min a b))
 tris_by lent (Bisect a b) = cut_of (min a b) (max a b) (lent (min a b))
 tris_by lent (Contract u v) = moved_of v (lent u)
 

@@ -7,7 +7,7 @@ ghost use Rattle.pf_star_model.specs.Lent.{has_name};
 ghost use Rattle.pf_spokes.specs.Spokes.{HasSpots};
 ghost use Rattle.pf_patch.specs.Tris.{HasCorners, HasSpot};
 ghost use Rattle.pf_patch.specs.Plans as spec;
-ghost use Rattle.pf_patch.specs.Plans.{AreInRange, edge_by, cut_on, moved_of, flipped_on, flipped, moved, middle_or, end_at, halves, left_halves, right_halves};
+ghost use Rattle.pf_patch.specs.Plans.{AreInRange, edge_by, cut_on, moved_of, flip_triangles_on, flip_triangles, moved, middle_or, end_at, halves, left_halves, right_halves};
 ghost use Rattle.pf_patch.specs.Made.{IsPlan};
 
 use crate::edge::{Edge, degree};
@@ -100,7 +100,7 @@ fn turn(
     left: Option<Spoke>,
     right: Option<Spoke>,
 ) -> Result<(), NoMemory>
-    ensures { OnOk result (list.new.items ≡ list.old.items ++ flipped lo left right) }
+    ensures { OnOk result (list.new.items ≡ list.old.items ++ flip_triangles lo left right) }
 {
     let Some(l) = left else {
         return Ok(());
@@ -184,7 +184,7 @@ fn move_to(list: &mut Vec<NewTri>, v: Corner, spokes: &[Spoke]) -> Result<(), No
 fn turn_edge(list: &mut Vec<NewTri>, edge: &Edge, lo: u32) -> Result<(), NoMemory>
     requires list { list.old.items ≡ [] }
     requires in_range { AreInRange edge.now }
-    ensures tris { OnOk result (list.new.items ≡ flipped_on lo (Some edge.now)) }
+    ensures tris { OnOk result (list.new.items ≡ flip_triangles_on lo (Some edge.now)) }
     ensures corners { OnOk result (All HasCorners list.new.items) }
 {
     let at_lo = Corner {

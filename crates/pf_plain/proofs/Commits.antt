@@ -33,7 +33,7 @@ use Rattle.pf_core_model.proofs.Told.{live_known}
 use Rattle.pf_core_model.proofs.Sharing.{none_due, kept_is, star_shared}
 use Rattle.pf_ghost.specs.declared.ready.Listed.{Listed}
 use Rattle.pf_ghost.specs.Prepared.{ready_of, listed_of}
-use Rattle.pf_ghost.specs.Spread.{later_name, place_of, spread_at, SpreadPutsDue}
+use Rattle.pf_ghost.specs.Spread.{later_name, named_node, spread_at, SpreadPutsDue}
 use Rattle.pf_holder.specs.Facts.{IsJudged, HoldsCavity}
 use Rattle.pf_holder.specs.Prepared.{fresh_of, IsReady}
 use Rattle.pf_holder.proofs.Held.{held_shown, end_within}
@@ -183,8 +183,8 @@ module _ (o : Opening) (log : List Entry) (nodes : List ℕ) (left chunk : ℕ) 
   stars_after : SpreadPutsDue → (stars stars' : List (Option Star)) → AreStars stars now → ((n : ℕ) → star_by stars' n ≡ spread_by name (ready_of o.mesh.chunks fresh) (star_by stars) n) → AreStars stars' after
   stars_after due stars stars' are put n = put n ∙ spread_kept name (ready_of o.mesh.chunks fresh) copies (star_by stars) n (are n ∙ sym (kept_now n)) ∙ spread_shows due n
 
-  ready_low : (l : Listed) → Contains (ready_of o.mesh.chunks fresh) l → place_of name l < names_of o
-  ready_low l i = let r = map-means (listed_of o.mesh.chunks) fresh l i in subst (λ (x : Listed). place_of name x < names_of o) r.2 (place_low r.0 r.1)
+  ready_low : (l : Listed) → Contains (ready_of o.mesh.chunks fresh) l → named_node name l < names_of o
+  ready_low l i = let r = map-means (listed_of o.mesh.chunks) fresh l i in subst (λ (x : Listed). named_node name x < names_of o) r.2 (place_low r.0 r.1)
 
 -- the same from what a struct keeps
 pub spread_plain : (o : Opening) (log log' : List Entry) (nodes : List ℕ) (allowance chunk name : ℕ) (op : Op) (ready : List Listed) (stars stars' : List (Option Star)) → SpreadPutsDue → 0 < allowance → name ≡ o.mesh.first_new + length log → log' ≡ log ++ record { ticket = length log; chunk = chunk; op = op } ∷ [] → IsJudged o.mesh.bands (pairs_at (mesh_after o log) nodes) chunk op None
@@ -198,9 +198,9 @@ spread_plain o log log' nodes (suc left) chunk name op ready stars stars' due ri
     (stars_after o log nodes left chunk op y j c due stars stars' a put')))
 
 pub places_low : (o : Opening) (log : List Entry) (nodes : List ℕ) (allowance chunk name : ℕ) (op : Op) (ready : List Listed) → 0 < allowance → name ≡ o.mesh.first_new + length log → IsJudged o.mesh.bands (pairs_at (mesh_after o log) nodes) chunk op None → HoldsCavity o.mesh.bands (pairs_at (mesh_after o log) nodes) chunk op → IsReady (star_held (pairs_at (mesh_after o log) nodes)) o.mesh.chunks op ready
-    → ∥ IsPlain o log nodes allowance ∥₁ → (l : Listed) → Contains ready l → place_of name l < names_of o
+    → ∥ IsPlain o log nodes allowance ∥₁ → (l : Listed) → Contains ready l → named_node name l < names_of o
 places_low o log nodes zero chunk name op ready rich e j c r p l i = absurd (omega (arith, rich))
 places_low o log nodes (suc left) chunk name op ready rich e j c r p l i =
     ∥∥₁_elim p (hlevel props) (λ (y : IsPlain o log nodes (suc left)).
     let named : name ≡ (mesh_after o log).first_new + length log = e ∙ ap (λ (k : ℕ). k + length log) (sym (replayed_first_new o.mesh log)) in
-    subst (λ (k : ℕ). place_of k l < names_of o) (sym named) (ready_low o log nodes left chunk op y j c l (subst (λ (x : List Listed). Contains x l) r i)))
+    subst (λ (k : ℕ). named_node k l < names_of o) (sym named) (ready_low o log nodes left chunk op y j c l (subst (λ (x : List Listed). Contains x l) r i)))

@@ -4,7 +4,7 @@ ghost use Rattle.std.specs.Option.{option_map};
 ghost use Rattle.pf_model.specs.Stars as model;
 ghost use Rattle.pf_core_model.specs.Sharers.{kept_in};
 ghost use Rattle.pf_ghost.specs.declared.ready.Listed.{Listed};
-ghost use Rattle.pf_ghost.specs.Spread.{place_of, named_list};
+ghost use Rattle.pf_ghost.specs.Spread.{named_node, named_list};
 ghost use Rattle.pf_plain.specs.Stars.{star_by, placed, spread_by};
 
 use pf_geom::NoMemory;
@@ -76,8 +76,8 @@ fn kept_star(list: Sharers) -> Option<Star>
 
 // Puts the keeper's copy of one node, with the name in the new node's place.
 fn put_listed(stars: &mut Vec<Option<Star>>, listed: Listed, name: u32)
-    requires { place_of name listed < vec_len stars.old }
-    ensures put { stars.new.items ≡ set stars.old.items (place_of name listed) (kept_in (named_list name listed)) }
+    requires { named_node name listed < vec_len stars.old }
+    ensures put { stars.new.items ≡ set stars.old.items (named_node name listed) (kept_in (named_list name listed)) }
     ensures len { vec_len stars.new ≡ vec_len stars.old }
 {
     let Listed { node, mut list } = listed;
@@ -88,7 +88,7 @@ fn put_listed(stars: &mut Vec<Option<Star>>, listed: Listed, name: u32)
 /// Puts the keeper's copy of each node that was prepared, with `name` in the new node's place, and none for a
 /// node that dies. It only moves values and takes no memory.
 pub fn spread(stars: &mut Vec<Option<Star>>, ready: Ready, name: u32)
-    requires { (l : Listed) → Contains ready l → place_of name l < vec_len stars.old }
+    requires { (l : Listed) → Contains ready l → named_node name l < vec_len stars.old }
     ensures put { (n : ℕ) → star_by stars.new.items n ≡ spread_by name ready (star_by stars.old.items) n }
     ensures len { vec_len stars.new ≡ vec_len stars.old }
 {

@@ -9,11 +9,11 @@ ghost use Rattle.pf_spokes.specs.Spokes.{HasSpots};
 ghost use Rattle.pf_rings.specs.Lending.{star_in};
 
 use crate::fan::is_fan;
-use pf_spokes::first_right;
 use crate::spokes::{has_owner, is_near, least_after, least_owner, spoke_from, spoke_to};
 use crate::star::Star;
 use pf_geom::Point;
 use pf_model::Spoke;
+use pf_spokes::first_right;
 
 /// A star that is lent. It can't outlive what lends it, and is copied freely.
 #[derive(Clone, Copy)]

@@ -8,7 +8,7 @@ use Rattle.pf_model.specs.Applied.{IsFresh, op_applied}
 use Rattle.pf_model.specs.Exchange.{CanExchange, exchanged}
 
 -- the operation passes for a chunk, and n is the new name of a ticket that is fresh
-pub record CanMake (m : Undivided) (n : ℕ) (op : Op) : Type 0 where
+pub record PassesWithName (m : Undivided) (n : ℕ) (op : Op) : Type 0 where
   pub chunk : ℕ
   pub ticket : ℕ
   pub fresh : IsFresh m ticket
@@ -17,5 +17,5 @@ pub record CanMake (m : Undivided) (n : ℕ) (op : Op) : Type 0 where
 
 -- where the operation can be applied, it makes the second list of the first
 pub record IsChange (m : Undivided) (n : ℕ) (op : Op) (removed new : List Tri) : Type 0 where
-  pub fits : CanMake m n op → CanExchange removed new m.tris
-  pub makes : (can : CanMake m n op) → exchanged removed new m.tris ≡ (op_applied m can.ticket op).tris
+  pub fits : PassesWithName m n op → CanExchange removed new m.tris
+  pub makes : (can : PassesWithName m n op) → exchanged removed new m.tris ≡ (op_applied m can.ticket op).tris

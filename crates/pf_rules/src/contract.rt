@@ -16,9 +16,9 @@ use crate::change::{Tris, least_first};
 use crate::conditions::is_counterclockwise;
 use crate::edge_sides::EdgeSides;
 use crate::scratch::Names;
-use pf_spokes::is_right;
 use pf_geom::{Point, orient};
 use pf_model::{Cond, Side, Spoke};
+use pf_spokes::is_right;
 
 // Whether the spoke is without this node.
 fn is_spoke_without(spoke: &Spoke, v: u32) -> bool

@@ -11,7 +11,7 @@ use Rattle.pf_core_model.specs.declared.event.Verdict.{Verdict}
 use Rattle.pf_core_model.specs.Core.{Opening}
 use Rattle.pf_core_model.specs.State.{CoreState, stepped, opening_state, state_after, verdicts_of, tickets_in, counted, free_part_of}
 use Rattle.pf_core.specs.declared.state.State.{State}
-use Rattle.pf_core.specs.Shown.{ShowsState, IsShown, IsStep}
+use Rattle.pf_core.specs.Shown.{ShowsState, IsShownState, IsStep}
 use Rattle.trace_text.specs.declared.write.Closing.{Closing}
 use Rattle.trace_text.specs.Verdicts.{verdict_words, verdict_lines, closing_lines, closing_of, trace_text}
 
@@ -91,11 +91,11 @@ module _ (o : Opening) (c : CoreState) (events : List Event) (start : List ℕ) 
 -- the loop over events: how many took place, that the state shows one of the model, and where the run stands
 pub record IsRun (before : State) (events : List Event) (start : List ℕ) (i number : ℕ) (s : State) (text : List ℕ) : Type 0 where
   pub counted : number ≡ i
-  pub sound : IsShown s
+  pub sound : IsShownState s
   pub stands : (o : Opening) (c : CoreState) → ShowsState o c before → StandsAt o c events start i s text
 
 -- an event leaves a state that shows one of the model
-pub still-shown : (old new : State) (next : Opening → CoreState → CoreState) (P : Opening → CoreState → Type 0) → IsShown old → ((o : Opening) (c : CoreState) → ShowsState o c old → ShowsState o (next o c) new × P o c) → IsShown new
+pub still-shown : (old new : State) (next : Opening → CoreState → CoreState) (P : Opening → CoreState → Type 0) → IsShownState old → ((o : Opening) (c : CoreState) → ShowsState o c old → ShowsState o (next o c) new × P o c) → IsShownState new
 still-shown old new next P h step = record { opening = h.opening; state = next h.opening h.state; shown = (step h.opening h.state h.shown).0 }
 
 -- the lines of all events and those that close the text are the whole

@@ -3,7 +3,7 @@ ghost use Rattle.std.specs.Prelude.{◌≡◌, ◌++◌, OnOk};
 ghost use Rattle.pf_model.specs.Texts.{lines_text};
 ghost use Rattle.pf_core_model.specs.Core.{Opening};
 ghost use Rattle.pf_core_model.specs.State.{CoreState};
-ghost use Rattle.pf_core.specs.Shown.{ShowsState, IsShown};
+ghost use Rattle.pf_core.specs.Shown.{ShowsState, IsShownState};
 ghost use Rattle.trace_text.specs.Verdicts.{closing_of, closing_lines};
 
 use pf_core::State;
@@ -13,7 +13,7 @@ use trace_text::{Closing, push_closing};
 
 /// Appends the lines on how things stand in the state.
 pub fn push_end(alloc: Global, text: &mut Vec<u8>, state: &State) -> Result<(), NoMemory>
-    requires { IsShown state.now }
+    requires { IsShownState state.now }
     ensures { (o : Opening) (c : CoreState) → ShowsState o c state.now →
         OnOk result (text.new.items ≡ text.old.items ++ lines_text (closing_lines (closing_of o c))) }
 {

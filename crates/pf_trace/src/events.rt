@@ -3,7 +3,7 @@ ghost use Rattle.std.specs.Prelude.{◌≡◌, ◌++◌, OnOk};
 ghost use Rattle.pf_model.specs.Texts.{line_text, lines_text};
 ghost use Rattle.pf_core_model.specs.Core.{Opening};
 ghost use Rattle.pf_core_model.specs.State.{CoreState, state_after, verdicts_of};
-ghost use Rattle.pf_core.specs.Shown.{ShowsState, IsShown};
+ghost use Rattle.pf_core.specs.Shown.{ShowsState, IsShownState};
 ghost use Rattle.trace_text.specs.Verdicts.{verdict_words, verdict_lines};
 
 use pf_core::{State, step};
@@ -19,7 +19,7 @@ pub fn push_events(
     state: &mut State,
     events: &[Event],
 ) -> Result<(), NoMemory>
-    requires { IsShown state.old }
+    requires { IsShownState state.old }
     ensures state { (o : Opening) (c : CoreState) → ShowsState o c state.old → OnOk result (ShowsState o (state_after o c events.now) state.new) }
     ensures text { (o : Opening) (c : CoreState) → ShowsState o c state.old →
         OnOk result (text.new.items ≡ text.old.items ++ lines_text (verdict_lines 1 events.now (verdicts_of o c events.now))) }

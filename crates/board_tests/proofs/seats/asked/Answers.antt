@@ -3,11 +3,11 @@ use Rattle.std.specs.Prelude.{Option, Some, None, IfSome}
 use Rattle.pf_model.specs.declared.Cond.{Cond}
 use Rattle.pf_model.specs.declared.Op.TheVariants.{Bisect}
 use Rattle.pf_core_model.specs.declared.view.View.{View}
-use Rattle.pf_core_model.specs.Guards.{IsJudged}
+use Rattle.pf_core_model.specs.Guards.{IsViewJudged}
 use Rattle.board_tests.proofs.Making.{seen_by}
 use Rattle.board_tests.proofs.seats.asked.Goals as goal
 
-if_some : (v : View) (chunk a b : ℕ) (x : Option Cond) → IsJudged v chunk (Bisect a b) x → IfSome x (λ cond. IsJudged v chunk (Bisect a b) (Some cond))
+if_some : (v : View) (chunk a b : ℕ) (x : Option Cond) → IsViewJudged v chunk (Bisect a b) x → IfSome x (λ cond. IsViewJudged v chunk (Bisect a b) (Some cond))
 if_some v chunk a b None j = tt
 if_some v chunk a b (Some cond) j = j
 

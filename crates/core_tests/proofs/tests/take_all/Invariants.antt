@@ -1,5 +1,5 @@
-use Rattle.pf_core.specs.Shown.{IsShown}
+use Rattle.pf_core.specs.Shown.{IsShownState}
 use Rattle.core_tests.proofs.tests.take_all.Given as goal
 
 abbrev pub invariant-loop-event : goal.invariant-loop-event
-invariant-loop-event g l = IsShown l.state
+invariant-loop-event g l = IsShownState l.state

@@ -7,13 +7,13 @@ use Rattle.pf_say.specs.declared.place.Place.TheVariants.{Node, Ele}
 use Rattle.pf_say.specs.Shown.{stems_of}
 use Rattle.pf_say.specs.Stop.{memory_stop}
 use Rattle.pf_cmd.specs.Faults.{build_stop}
-use Rattle.pf_cmd.specs.Input.{Held, ◌>>=◌, files_in, without, bytes_in, vertices_in, triangles_in, build_accepted, mesh_in}
+use Rattle.pf_cmd.specs.Input.{HeldFiles, ◌>>=◌, files_in, without, bytes_in, vertices_in, triangles_in, build_accepted, mesh_in}
 use Rattle.pf_model.proofs.BuiltFresh.{built-fresh}
 use Rattle.pf_cmd.proofs.Reading.{explains-then, explains-later, reads-later, explained, build_stop-inner, build-refused, quiet-trans}
 use Rattle.pf_cmd.proofs.input.read_mesh.Goals as goal
 
 -- the vertices don't depend on the triangles
-apart : (scale : _) (f : Held) → vertices_in scale (without Ele f) ≡ vertices_in scale f
+apart : (scale : _) (f : HeldFiles) → vertices_in scale (without Ele f) ≡ vertices_in scale f
 unfolding vertices_in bytes_in
 apart scale f = refl
 

@@ -4,12 +4,12 @@ use Rattle.pf_model.specs.Tables.{with_tables_of}
 use Rattle.pf_say.specs.declared.place.Place.TheVariants.{Node, Ele, Part, Size}
 use Rattle.pf_say.specs.Shown.{stems_of}
 use Rattle.pf_cmd.specs.Shown.{parted_of}
-use Rattle.pf_cmd.specs.Input.{Held, ◌>>=◌, Partitioned, files_in, without, bytes_in, vertices_in, triangles_in, mesh_in, parts_in, partitioned_in, bands_in, numbered_in}
+use Rattle.pf_cmd.specs.Input.{HeldFiles, ◌>>=◌, Partitioned, files_in, without, bytes_in, vertices_in, triangles_in, mesh_in, parts_in, partitioned_in, bands_in, numbered_in}
 use Rattle.pf_cmd.proofs.Reading.{explains-then, explains-later, reads-later, memory-explains, quiet-trans}
 use Rattle.pf_cmd.proofs.input.read_numbered.Goals as goal
 
 -- the parted mesh doesn't depend on the size table
-pub apart : (scale : _) (f : Held) → partitioned_in scale (without Size f) ≡ partitioned_in scale f
+pub apart : (scale : _) (f : HeldFiles) → partitioned_in scale (without Size f) ≡ partitioned_in scale f
 unfolding partitioned_in parts_in mesh_in vertices_in triangles_in bytes_in
 apart scale f = refl
 

@@ -2,12 +2,12 @@ use Rattle.std.proofs.Common.{◌≡◌, [], ◌∷◌, ◌∙◌, refl, ap, Ok,
 use Rattle.std.proofs.lemmas.Result.{err_from_is_err_and}
 use Rattle.pf_say.specs.declared.place.Place.TheVariants.{Node, Ele, Part}
 use Rattle.pf_say.specs.Shown.{stems_of}
-use Rattle.pf_cmd.specs.Input.{Held, ◌>>=◌, Listed, files_in, without, bytes_in, vertices_in, triangles_in, mesh_in, parts_in, partitioned_in}
+use Rattle.pf_cmd.specs.Input.{HeldFiles, ◌>>=◌, Listed, files_in, without, bytes_in, vertices_in, triangles_in, mesh_in, parts_in, partitioned_in}
 use Rattle.pf_cmd.proofs.Reading.{explains-then, explains-later, reads-later, quiet-trans}
 use Rattle.pf_cmd.proofs.input.read_partitioned.Goals as goal
 
 -- the mesh doesn't depend on the partition
-pub apart : (scale : _) (f : Held) → mesh_in scale (without Part f) ≡ mesh_in scale f
+pub apart : (scale : _) (f : HeldFiles) → mesh_in scale (without Part f) ≡ mesh_in scale f
 unfolding mesh_in vertices_in triangles_in bytes_in
 apart scale f = refl
 

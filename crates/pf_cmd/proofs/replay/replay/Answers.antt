@@ -8,13 +8,13 @@ use Rattle.pf_say.specs.declared.place.Place.TheVariants.{Node, Ele, Part, Size,
 use Rattle.pf_say.specs.declared.stop.Stop.{Stop}
 use Rattle.pf_say.specs.Shown.{stems_of}
 use Rattle.pf_say.specs.Stop.{memory_stop}
-use Rattle.pf_cmd.specs.Input.{Held, ◌>>=◌, Numbered, files_in, without, bytes_in, vertices_in, triangles_in, mesh_in, parts_in, partitioned_in, bands_in, numbered_in, entries_in}
+use Rattle.pf_cmd.specs.Input.{HeldFiles, ◌>>=◌, Numbered, files_in, without, bytes_in, vertices_in, triangles_in, mesh_in, parts_in, partitioned_in, bands_in, numbered_in, entries_in}
 use Rattle.pf_cmd.specs.Commands.{Journalled, IsRefused, passed, journalled_in}
 use Rattle.pf_cmd.proofs.Reading.{explains-then, explains-later, reads-later, explained, quiet-trans}
 use Rattle.pf_cmd.proofs.replay.replay.Goals as goal
 
 -- the numbered mesh doesn't depend on the journal
-apart : (scale : _) (f : Held) → numbered_in scale (without Journal f) ≡ numbered_in scale f
+apart : (scale : _) (f : HeldFiles) → numbered_in scale (without Journal f) ≡ numbered_in scale f
 unfolding numbered_in bands_in partitioned_in parts_in mesh_in vertices_in triangles_in bytes_in
 apart scale f = refl
 

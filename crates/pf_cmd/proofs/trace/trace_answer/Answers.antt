@@ -6,13 +6,13 @@ use Rattle.pf_say.specs.declared.place.Place.TheVariants.{Node, Ele, Part, Size,
 use Rattle.pf_say.specs.Shown.{stems_of}
 use Rattle.pf_say.specs.Stop.{memory_stop}
 use Rattle.pf_cmd.specs.Faults.{trace_stop}
-use Rattle.pf_cmd.specs.Input.{Held, ◌>>=◌, Numbered, files_in, without, bytes_in, vertices_in, triangles_in, mesh_in, parts_in, partitioned_in, bands_in, numbered_in, trace_accepted, said_in}
+use Rattle.pf_cmd.specs.Input.{HeldFiles, ◌>>=◌, Numbered, files_in, without, bytes_in, vertices_in, triangles_in, mesh_in, parts_in, partitioned_in, bands_in, numbered_in, trace_accepted, said_in}
 use Rattle.pf_cmd.specs.Commands.{Traced, traced_in}
 use Rattle.pf_cmd.proofs.Reading.{explains-then, explains-later, reads-later, explained, quiet-trans, only_read-trans, trace_stop-inner, trace-refused}
 use Rattle.pf_cmd.proofs.trace.trace_answer.Goals as goal
 
 -- the numbered mesh doesn't depend on the trace
-apart : (scale : _) (f : Held) → numbered_in scale (without Trace f) ≡ numbered_in scale f
+apart : (scale : _) (f : HeldFiles) → numbered_in scale (without Trace f) ≡ numbered_in scale f
 unfolding numbered_in bands_in partitioned_in parts_in mesh_in vertices_in triangles_in bytes_in
 apart scale f = refl
 

@@ -3,7 +3,7 @@ use Rattle.std.specs.Prelude.{None}
 use Rattle.pf_model.specs.Lengths.{edge_of}
 use Rattle.pf_holder.specs.Facts.{LendsAll, mesh_alone}
 use Rattle.pf_finish.specs.Seen.{IsSettled}
-use Rattle.pf_finish.specs.Covers.{IsStep}
+use Rattle.pf_finish.specs.Covers.{IsWorkStep}
 use Rattle.pf_finish.proofs.pass.edges_followed.Given as goal
 
 abbrev pub invariant-found : goal.invariant-found
@@ -12,5 +12,5 @@ invariant-found g l =
     m.same l.fn.h l.h
     × ((m.pairs l.h ≡ []) × (m.unborn l.h ≡ None) × (m.owed l.h ≡ []))
     × LendsAll (g.H.Rings.lent l.h) (m.pairs l.h)
-    × IsStep (m.opening l.fn.h) (m.allowance l.fn.h) (m.entries l.fn.h) l.fn.end (m.allowance l.h) (m.entries l.h) l.end
+    × IsWorkStep (m.opening l.fn.h) (m.allowance l.fn.h) (m.entries l.fn.h) l.fn.end (m.allowance l.h) (m.entries l.h) l.end
     × (m.allowance l.h ≡ m.allowance l.fn.h → (k d : ℕ) → k < l.x-index → IsSettled (mesh_alone (m.opening l.fn.h) (m.entries l.fn.h)) (edge_of l.n (get_or l.found k d)))

@@ -4,7 +4,7 @@ use Rattle.pf_core_model.specs.declared.view.View.{View}
 use Rattle.pf_core_model.specs.Lists.{In}
 use Rattle.pf_core_model.specs.Core.{nodes_of}
 use Rattle.pf_ghost.specs.declared.ready.Listed.{Listed}
-use Rattle.pf_ghost.specs.Spread.{place_of, spread_at}
+use Rattle.pf_ghost.specs.Spread.{named_node, spread_at}
 use Rattle.pf_hand.proofs.Puts.{one_put, in_front, at_end, no_lists}
 use Rattle.pf_locks.specs.Lists.{list_in}
 use Rattle.pf_hand.proofs.put.put_lists.Goals as goal
@@ -16,7 +16,7 @@ pub put_listed-requires-clause-held : goal.put_listed-requires-clause-held
 put_listed-requires-clause-held c =
     let l : Listed = c.in-Some.listed in
     let is : c.puts.lists.items ≡ c.pop.new.self.items ++ l ∷ [] = c.pop.ensures.items ∙ ap (λ o. c.pop.new.self.items ++ option_to_list o) c.in-Some.is in
-    subst (λ (u : View). In (place_of c.args.name l) (nodes_of u)) (sym c.puts.invariant.2) (c.puts.invariant.3 l (subst (λ (x : List Listed). Contains x l) (sym is) (at_end l c.pop.new.self.items)))
+    subst (λ (u : View). In (named_node c.args.name l) (nodes_of u)) (sym c.puts.invariant.2) (c.puts.invariant.3 l (subst (λ (x : List Listed). Contains x l) (sym is) (at_end l c.pop.new.self.items)))
 
 pub puts-preserved : goal.puts-preserved
 puts-preserved c =

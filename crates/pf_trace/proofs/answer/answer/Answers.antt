@@ -1,7 +1,7 @@
 use Rattle.std.proofs.Common.{◌≡◌, arith, subst}
 use Rattle.pf_core_model.specs.Core.{Opening}
 use Rattle.pf_core_model.specs.State.{opening_state, state_after}
-use Rattle.pf_core.specs.Shown.{IsShown, opening_of}
+use Rattle.pf_core.specs.Shown.{IsShownState, opening_of}
 use Rattle.trace_text.specs.Verdicts.{trace_text}
 use Rattle.pf_trace.proofs.Lines.{whole-text}
 use Rattle.pf_trace.proofs.answer.answer.Goals as goal

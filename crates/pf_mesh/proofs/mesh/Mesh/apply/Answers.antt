@@ -3,7 +3,7 @@ use Rattle.pf_model.specs.Mesh.{Undivided}
 use Rattle.pf_model.specs.Conforming.{IsConforming}
 use Rattle.pf_model.specs.Sums.{area2_of}
 use Rattle.pf_model.proofs.ReplayKeeps.{applied_conforms, applied_area}
-use Rattle.pf_rules.specs.Change.{CanMake}
+use Rattle.pf_rules.specs.Change.{PassesWithName}
 use Rattle.pf_mesh.proofs.mesh.Mesh.apply.Goals as goal
 use Rattle.pf_model.specs.Sums.{euler_of}
 use Rattle.pf_cover_model.specs.Alike.{CoversAlike, KeepsFans}
@@ -11,7 +11,7 @@ use Rattle.pf_cover_model.proofs.Covers.{applied_cover}
 use Rattle.pf_cover_model.proofs.Eulers.{applied_euler}
 use Rattle.pf_cover_model.proofs.FanKeeps.{applied_fans}
 
-abbrev can : (c : goal.In-Ok) → CanMake c.args.self.now.mesh (c.first_new.result + c.args.e.now.ticket) c.args.e.now.op
+abbrev can : (c : goal.In-Ok) → PassesWithName c.args.self.now.mesh (c.first_new.result + c.args.e.now.ticket) c.args.e.now.op
 can c = record { chunk = c.args.e.now.chunk; ticket = c.args.e.now.ticket; fresh = c.requires.fresh; name = ap (λ (i : ℕ). i + c.args.e.now.ticket) (sym c.first_new.ensures.value); passes = sym c.plan.ensures.cond ∙ c.in_default-plan.is }
 
 pub returns-in-Ok-clause-applied : goal.returns-in-Ok-clause-applied

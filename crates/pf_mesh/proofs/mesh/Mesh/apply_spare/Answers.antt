@@ -6,7 +6,7 @@ use Rattle.pf_model.specs.Applied.{IsFresh, applied, op_applied}
 use Rattle.pf_model.specs.Sums.{area2_of}
 use Rattle.pf_model.proofs.ReplayKeeps.{applied_conforms, applied_area}
 use Rattle.pf_edges.specs.Kept.{mesh_of}
-use Rattle.pf_rules.specs.Change.{CanMake, IsChange}
+use Rattle.pf_rules.specs.Change.{PassesWithName, IsChange}
 use Rattle.pf_apply.specs.Operations.{AreParts}
 use Rattle.pf_mesh.proofs.MeshLemmas.{same-mesh}
 use Rattle.pf_apply.proofs.OperationLemmas.{parts-after, kept-after}
@@ -22,7 +22,7 @@ abbrev before : (c : goal.After-perform_within) → Undivided
 before c = mesh_of c.self.inside.first_new c.self.inside.sites.items c.self.inside.tris.items c.self.inside.bands.items c.self.inside.chunks
 
 -- the entry can be applied to it
-abbrev can : (c : goal.After-perform_within) → CanMake (before c) (c.first_new.result + c.args.e.now.ticket) c.args.e.now.op
+abbrev can : (c : goal.After-perform_within) → PassesWithName (before c) (c.first_new.result + c.args.e.now.ticket) c.args.e.now.op
 can c =
     let e = c.args.e.now in
     let F : Undivided → Type 0 = λ x. IsFresh x e.ticket in
