@@ -24,13 +24,13 @@ use pf_edges::table::EdgeTable;
 use pf_model::{Band, Cond, Spoke};
 use pf_rules::conditions::edge_condition;
 use pf_rules::contract::{
-    StarShape, is_an_apex, is_flat, lesser_of, names_around, triangles_moved, triangles_of,
+    StarShape, is_an_apex, is_flat, names_around, triangles_moved, triangles_of,
 };
 use pf_rules::edge_sides::EdgeSides;
 use pf_rules::lengths::Placed;
 use pf_rules::refusals::{contract_refusal, far_refusal};
 use pf_rules::scratch::{Names, Scratch, StarLists};
-use pf_spokes::{first_right, last_left};
+use pf_spokes::{first_right, last_left, lesser_of};
 
 /// A node with more triangles isn't contracted.
 const MOST_SPOKES: u64 = pf_model::MOST_SPOKES as u64;
