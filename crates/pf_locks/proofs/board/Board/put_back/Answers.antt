@@ -13,7 +13,7 @@ use Rattle.pf_locks.proofs.board.Board.put_back.Goals as goal
 pub take_list-list-requires : goal.take_list-list-requires
 take_list-list-requires c =
     let z = place_near c.args.n c.args.s.now.kept.items c.requires.held in
-    omega (arith, z, (c.place_of-at.ensures ∙ ap (λ (l : List Kept). first_place l c.args.n) c.deref.ensures.value), c.args.s.now.kept.ok)
+    omega (arith, z, (c.index_of-at.ensures ∙ ap (λ (l : List Kept). first_place l c.args.n) c.deref.ensures.value), c.args.s.now.kept.ok)
 
 pub exchange-requires-clause-front : goal.exchange-requires-clause-front
 exchange-requires-clause-front c =
@@ -21,7 +21,7 @@ exchange-requires-clause-front c =
     let ks = c.args.s.now.kept.items in
     let i = first_place ks n in
     let f : c.turn_slots.new.seat.me.1 ≡ (n, []) ∷ (drop (suc i) (slots_of ks) ++ take i (slots_of ks))
-    = ap (λ m. m.1) c.turn_slots.ensures.2 ∙ ap (λ (k : ℕ). rotated k c.args.s.now.seat.me.1) (c.place_of-at.ensures ∙ ap (λ (l : List Kept). first_place l c.args.n) c.deref.ensures.value) ∙ ap (λ (l : Hand). rotated i l) c.requires.slots ∙ front_of n ks c.requires.held in
+    = ap (λ m. m.1) c.turn_slots.ensures.2 ∙ ap (λ (k : ℕ). rotated k c.args.s.now.seat.me.1) (c.index_of-at.ensures ∙ ap (λ (l : List Kept). first_place l c.args.n) c.deref.ensures.value) ∙ ap (λ (l : Hand). rotated i l) c.requires.slots ∙ front_of n ks c.requires.held in
     ([], f ∙ ap (λ (l : Hand). (n, []) ∷ l) (sym (ap rest f)))
 
 pub overflow_sub-result : goal.overflow_sub-result
@@ -30,8 +30,8 @@ overflow_sub-result c =
     let ks = c.args.s.now.kept.items in
     let a = place_near n ks c.requires.held in
     let b = shorter ks (first_place ks n) a in
-    let d : length c.take_list-list.new.kept.items ≡ length (remove ks (first_place ks n)) = ap (λ (l : List Kept). length l) (c.take_list-list.ensures.others ∙ ap (λ (k : ℕ). remove ks k) (c.place_of-at.ensures ∙ ap (λ (l : List Kept). first_place l c.args.n) c.deref.ensures.value)) in
-    omega (arith, a, b, d, (c.place_of-at.ensures ∙ ap (λ (l : List Kept). first_place l c.args.n) c.deref.ensures.value), c.take_list-list.new.kept.ok)
+    let d : length c.take_list-list.new.kept.items ≡ length (remove ks (first_place ks n)) = ap (λ (l : List Kept). length l) (c.take_list-list.ensures.others ∙ ap (λ (k : ℕ). remove ks k) (c.index_of-at.ensures ∙ ap (λ (l : List Kept). first_place l c.args.n) c.deref.ensures.value)) in
+    omega (arith, a, b, d, (c.index_of-at.ensures ∙ ap (λ (l : List Kept). first_place l c.args.n) c.deref.ensures.value), c.take_list-list.new.kept.ok)
 
 pub returns-clause-left : goal.returns-clause-left
 returns-clause-left c =
@@ -40,13 +40,13 @@ returns-clause-left c =
     let i = first_place ks n in
     let a = place_near n ks c.requires.held in
     let b = shorter ks i a in
-    let others : c.take_list-list.new.kept.items ≡ remove ks i = c.take_list-list.ensures.others ∙ ap (λ (k : ℕ). remove ks k) (c.place_of-at.ensures ∙ ap (λ (l : List Kept). first_place l c.args.n) c.deref.ensures.value) in
+    let others : c.take_list-list.new.kept.items ≡ remove ks i = c.take_list-list.ensures.others ∙ ap (λ (k : ℕ). remove ks k) (c.index_of-at.ensures ∙ ap (λ (l : List Kept). first_place l c.args.n) c.deref.ensures.value) in
     let d : length c.take_list-list.new.kept.items ≡ length (remove ks i) = ap (λ (l : List Kept). length l) others in
     let f : c.turn_slots.new.seat.me.1 ≡ (n, []) ∷ (drop (suc i) (slots_of ks) ++ take i (slots_of ks))
-    = ap (λ m. m.1) c.turn_slots.ensures.2 ∙ ap (λ (k : ℕ). rotated k c.args.s.now.seat.me.1) (c.place_of-at.ensures ∙ ap (λ (l : List Kept). first_place l c.args.n) c.deref.ensures.value) ∙ ap (λ (l : Hand). rotated i l) c.requires.slots ∙ front_of n ks c.requires.held in
+    = ap (λ m. m.1) c.turn_slots.ensures.2 ∙ ap (λ (k : ℕ). rotated k c.args.s.now.seat.me.1) (c.index_of-at.ensures ∙ ap (λ (l : List Kept). first_place l c.args.n) c.deref.ensures.value) ∙ ap (λ (l : Hand). rotated i l) c.requires.slots ∙ front_of n ks c.requires.held in
     let g : rest c.exchange.new.seat.me.1 ≡ drop (suc i) (slots_of ks) ++ take i (slots_of ks) = ap (λ m. rest m.1) c.exchange.ensures.new ∙ ap rest f in
-    let k : ℕ = c.len.result - c.place_of-at.result in
-    ap (λ (l : Hand). rotated k l) g ∙ back_of n ks k c.requires.held (omega (arith, a, b, d, (c.place_of-at.ensures ∙ ap (λ (l : List Kept). first_place l c.args.n) c.deref.ensures.value), c.take_list-list.new.kept.ok)) ∙ ap slots_of (sym others)
+    let k : ℕ = c.len.result - c.index_of-at.result in
+    ap (λ (l : Hand). rotated k l) g ∙ back_of n ks k c.requires.held (omega (arith, a, b, d, (c.index_of-at.ensures ∙ ap (λ (l : List Kept). first_place l c.args.n) c.deref.ensures.value), c.take_list-list.new.kept.ok)) ∙ ap slots_of (sym others)
 
 pub returns-clause-kept : goal.returns-clause-kept
 returns-clause-kept c =
@@ -54,7 +54,7 @@ returns-clause-kept c =
     let ks = c.args.s.now.kept.items in
     let i = first_place ks n in
     let h = c.requires.held in
-    let others : c.take_list-list.new.kept.items ≡ remove ks i = c.take_list-list.ensures.others ∙ ap (λ (k : ℕ). remove ks k) (c.place_of-at.ensures ∙ ap (λ (l : List Kept). first_place l c.args.n) c.deref.ensures.value) in
+    let others : c.take_list-list.new.kept.items ≡ remove ks i = c.take_list-list.ensures.others ∙ ap (λ (k : ℕ). remove ks k) (c.index_of-at.ensures ∙ ap (λ (l : List Kept). first_place l c.args.n) c.deref.ensures.value) in
     record {
       names = λ q. ap (λ (l : List Kept). times q (names_in l) + unit (n == q)) others ∙ names_less n ks h q;
       long = ap (λ (l : List Kept). length l + 1) others ∙ shorter ks i (place_near n ks h);
